@@ -1,0 +1,44 @@
+use mathlib.Core.Path.{_≡_, _∙_, ap, sym}
+use Prim.Native.Nat.{ℕ, suc, _-_, _%_, _^_, _<_}
+use native.Mathlib.Nat.{div-one, mod-lt, zero-mod, mod-one}
+use native.Mathlib.Omega.{arith}
+use lib.Pow.{pow-pos}
+use mir.Syntax.{w64}
+use mir.ValLaws.{toZ-pos}
+use Rattle.bits.specs.Integers.{SInt}
+use Rattle.bits.proofs.Integers.{read, no-sign}
+use borrow.Author.Needs.{needs}
+use Rattle.bits.proofs.sign_extended.Statement.{statement}
+use Rattle.bits.proofs.sign_extended.Tie as tie
+
+returns : tie.Need-returns
+returns c = rw (c .if1 .taken, mod-one (c .before .args .x))
+
+cast-result : tie.Need-cast-result
+cast-result c = search needs
+
+returns-2 : tie.Need-returns-2
+returns-2 c = toZ-pos w64 (c .before .before .args .x) (omega arith) ∙ no-sign (c .before .before .args .x) (c .before .before .args .n) (omega arith) (omega arith)
+
+field-requires : tie.Need-field-requires
+field-requires c κs = search needs
+
+sub-signed : tie.Need-sub-signed
+sub-signed c = search needs
+
+signed-requires : tie.Need-signed-requires
+signed-requires c κs =
+    let a = c .before .before .before .args in
+    let e : suc (a .n - 1) ≡ a .n = omega arith in
+    (omega arith, rw (c .field .ensures, e, div-one (a .x)) (mod-lt (a .x) (pow-pos (a .n))))
+
+returns-3 : tie.Need-returns-3
+returns-3 c =
+    let a = c .before .before .before .before .args in
+    let e : suc (a .n - 1) ≡ a .n = omega arith in
+    read (c .signed .result) (c .signed .ok) ∙ (rw (c .before .field .ensures, e, div-one (a .x)) at (c .signed .ensures))
+
+pub sign-extended-spec : {M : Type 1} → statement M
+sign-extended-spec =
+    tie.close
+    (tie.spec returns cast-result returns-2 field-requires sub-signed signed-requires returns-3)
