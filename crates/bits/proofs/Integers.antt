@@ -14,11 +14,7 @@ use mir.Val.{toZ, ofZ, SFits}
 use mir.ValLaws.{toZ-pos, toZ-ofZ}
 use Rattle.bits.specs.Fields.{bit}
 use Rattle.bits.specs.Integers.{SInt, lowWord}
-use Rattle.bits.specs.Differences.{more, minus, mag-diff}
-
--- a call's integer, as the next operation reads it from its bits
-pub read : (z : ℤ) → mag z < 2 ^ 63 → toZ w64 (ofZ w64 z) ≡ z
-read z h = toZ-ofZ w64 z (record { sfits = h })
+use Rattle.laws.specs.Differences.{more, minus, mag-diff}
 
 -- ---- SInt
 
@@ -73,12 +69,3 @@ remains (negsuc a) = by (suc a % 2 ^ 32) (omega arith)
     by : (r : ℕ) → r ≡ suc a % 2 ^ 32 → Remains (negsuc a) (negℤ (pos r))
     by zero e = (omega arith, omega arith)
     by (suc r) e = (omega arith, omega arith)
-
--- a quotient by a natural is no larger
-pub mag-quot : (z : ℤ) (d : ℕ) → mag (quotZ z (pos d)) ≤ mag z
-mag-quot (pos a) d = div-le-self a d
-mag-quot (negsuc a) d = by (suc a / d) (div-le-self (suc a) d)
-  where
-    by : (r : ℕ) → r ≤ suc a → mag (negℤ (pos r)) ≤ a
-    by zero h = omega arith
-    by (suc r) h = omega arith

@@ -1,3 +1,3 @@
 pub mod Fields
 pub mod Integers
-pub mod Differences
+pub mod Theorems

@@ -6,7 +6,8 @@ use lib.Pow.{pow-pos}
 use mir.Syntax.{w64}
 use mir.ValLaws.{toZ-pos}
 use Rattle.bits.specs.Integers.{SInt}
-use Rattle.bits.proofs.Integers.{read, no-sign}
+use Rattle.laws.specs.Integers.{read}
+use Rattle.bits.proofs.Integers.{no-sign}
 use borrow.Author.Needs.{needs}
 use Rattle.bits.proofs.sign_extended.Statement.{statement}
 use Rattle.bits.proofs.sign_extended.Tie as tie

@@ -1,0 +1,36 @@
+-- The integers of words, and as the next operation reads them from their 64 bits. Assumes nothing.
+use mathlib.Core.Path.{_≡_, ap, _∙_}
+use Prim.Native.Nat.{ℕ, _-_, _*_, _/_, _%_, _^_, _<_}
+use native.Mathlib.Decide.{ℕ-discrete}
+use native.Mathlib.Nat.{div-one, mod-eq-of-lt, zero-mul, one-mul}
+use native.Mathlib.Omega.{arith}
+use lib.IntN.{ℤ, natAbs, subℕ}
+use lib.Signed.{mag}
+use borrow.Author.Tests.{ne-eqb}
+use mir.Syntax.{w64}
+use mir.Val.{toZ, ofZ}
+use Rattle.bits.specs.Integers.{SInt, lowWord}
+use Rattle.laws.specs.Differences.{less, minus, of-pos}
+use Rattle.laws.specs.Integers.{read}
+use Rattle.arm.specs.Bitwise.{signExtended}
+
+-- x, less 2 ^ n for its top bit
+pub difference : (n x : ℕ) → SInt n x ≡ subℕ x (x / 2 ^ (n - 1) % 2 * 2 ^ n)
+difference n x = elim (ℕ-discrete (x / 2 ^ (n - 1) % 2) 1) [
+  | yes e ↦ rw (e, one-mul) (minus x (2 ^ n))
+  | no e ↦ let z : x / 2 ^ (n - 1) % 2 ≡ 0 = omega arith in rw (z, zero-mul) (of-pos x)
+]
+
+-- a word's integer is in its range, and 0 only if the word is
+pub in-range : (x : ℕ) → x < 2 ^ 32 → (mag (SInt 32 x) < 2 ^ 31) × ((x ≡ 0 → ⊥) → 0 < natAbs (SInt 32 x))
+in-range x h = elim (ℕ-discrete (x / 2 ^ 31 % 2) 1) [
+  | yes e ↦ rw (e, minus, less x (2 ^ 32) h) (omega arith, λ n. omega arith)
+  | no e ↦ rw (ne-eqb _ _ e) (omega arith, λ n. omega arith)
+]
+
+pub word : (x : ℕ) (z : ℤ) → x < 2 ^ 32 → mag z < 2 ^ 63 → z ≡ SInt 32 (x % 2 ^ 32) → toZ w64 (ofZ w64 z) ≡ SInt 32 x
+word x z h k e = read z k ∙ e ∙ ap (SInt 32) (mod-eq-of-lt h)
+
+-- the last n bits, extended to a word
+pub extended : (n x : ℕ) (z : ℤ) → mag z < 2 ^ 63 → z ≡ SInt n (x % 2 ^ n) → lowWord (toZ w64 (ofZ w64 z)) ≡ signExtended n (x / 1 % 2 ^ n)
+extended n x z k e = rw (read z k, e, div-one)

@@ -1,0 +1,4 @@
+pub mod Integers
+pub mod Sums
+pub mod Shifts
+pub mod Products

@@ -1,0 +1,5 @@
+pub mod Fields
+pub mod Patterns
+pub mod Lines
+pub mod Classes
+pub mod Masks

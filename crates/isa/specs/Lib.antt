@@ -1,0 +1,4 @@
+pub mod Patterns
+pub mod ListedEncodings
+pub mod Classes
+pub mod Theorems

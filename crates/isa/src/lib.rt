@@ -1,0 +1,375 @@
+// Halfwords to instructions: the listed encodings and no others.
+ghost use mathlib.Core.Path.{_≡_};
+ghost use Prim.Native.Nat.{_/_, _^_};
+ghost use Rattle.bits.specs.Fields.{bits};
+ghost use Rattle.isa.specs.ListedEncodings.{decodeBy, listed16, listed32, arithmetic32, decode16Of, decode32Of, opens32, imm6Of, imm16Of, wordOf};
+ghost use Rattle.isa.specs.Classes.{classOf, operandsOf};
+
+// An instruction that goes on to the next one. Its operands are raw fields, in the order of their bits, highest first:
+// d, n, m and t are register numbers.
+pub enum Operation {
+    // imm5, m, d
+    LslImm(u8, u8, u8),
+    LsrImm(u8, u8, u8),
+    AsrImm(u8, u8, u8),
+    // m, n, d
+    AddReg(u8, u8, u8),
+    SubReg(u8, u8, u8),
+    // imm3, n, d
+    AddImm3(u8, u8, u8),
+    SubImm3(u8, u8, u8),
+    // d, imm8 (CmpImm: n, imm8)
+    MovImm(u8, u8),
+    CmpImm(u8, u8),
+    AddImm(u8, u8),
+    SubImm(u8, u8),
+    // m, d (Tst, CmpReg, Cmn: m, n; Rsb, Mul: n, d)
+    And(u8, u8),
+    Eor(u8, u8),
+    LslReg(u8, u8),
+    LsrReg(u8, u8),
+    AsrReg(u8, u8),
+    Adc(u8, u8),
+    Sbc(u8, u8),
+    RorReg(u8, u8),
+    Tst(u8, u8),
+    Rsb(u8, u8),
+    CmpReg(u8, u8),
+    Cmn(u8, u8),
+    Orr(u8, u8),
+    Mul(u8, u8),
+    Bic(u8, u8),
+    Mvn(u8, u8),
+    MovReg(u8, u8),
+    // t, imm8 (AddSp: d, imm8)
+    LdrLit(u8, u8),
+    StrSp(u8, u8),
+    LdrSp(u8, u8),
+    AddSp(u8, u8),
+    // m, d
+    Sxth(u8, u8),
+    Sxtb(u8, u8),
+    Uxth(u8, u8),
+    Uxtb(u8, u8),
+    Nop,
+    // t, imm12, with base r9
+    Str(u8, u16),
+    Strb(u8, u16),
+    Strh(u8, u16),
+    // n, t, imm12, with base r8 or r9: n is 8 or 9
+    Ldr(u8, u8, u16),
+    Ldrb(u8, u8, u16),
+    Ldrh(u8, u8, u16),
+    Ldrsb(u8, u8, u16),
+    Ldrsh(u8, u8, u16),
+    // imm16, d
+    Movw(u16, u8),
+    Movt(u16, u8),
+    // n, d, m
+    Sdiv(u8, u8, u8),
+    Udiv(u8, u8, u8),
+}
+
+// What stands at a place. The operands are raw fields, in the order of their bits.
+pub enum Instruction {
+    Straight(Operation),
+    // i:imm5, n
+    Cbz(u8, u8),
+    Cbnz(u8, u8),
+    // cond, imm8
+    Bcc(u8, u8),
+    // imm11
+    B(u16),
+    // imm8
+    Service(u8),
+    Unlisted,
+}
+
+// The fields of the 16-bit encodings, named by their bits.
+struct Operands {
+    low3: u8,
+    mid3: u8,
+    high3: u8,
+    bits_10_8: u8,
+    imm5: u8,
+    imm6: u8,
+    imm8: u8,
+    imm11: u16,
+    condition: u8,
+}
+
+// A first halfword that opens a 32-bit instruction.
+pub fn opens_32(h: u16) -> bool
+    ensures { λ r. ⌜ r ≡ opens32 h ⌝ }
+{
+    bits::field(h as u32, 11, 5) >= 29
+}
+
+// ---- 16 bits
+
+// The class of a halfword, from its top byte alone: the number of its line in `lines16`.
+fn class(t: u8) -> u8
+    ensures { λ r. ⌜ r ≡ classOf t ⌝ }
+{
+    let five = t / 8;
+    match t {
+        0x18 | 0x19 => 3,
+        0x1A | 0x1B => 4,
+        0x1C | 0x1D => 5,
+        0x1E | 0x1F => 6,
+        0x40 | 0x41 | 0x42 | 0x43 => 11,
+        0x46 => 12,
+        0xB2 => 17,
+        0xBF => 18,
+        0xB1 | 0xB3 => 19,
+        0xB9 | 0xBB => 20,
+        0xD8 | 0xD9 | 0xDA | 0xDB | 0xDC | 0xDD => 21,
+        0xDF => 23,
+        _ => match five {
+            0 => 0,
+            1 => 1,
+            2 => 2,
+            4 => 7,
+            5 => 8,
+            6 => 9,
+            7 => 10,
+            9 => 13,
+            18 => 14,
+            19 => 15,
+            21 => 16,
+            26 => 21,
+            28 => 22,
+            _ => 24,
+        },
+    }
+}
+
+fn read_operands(h: u16) -> Operands
+    ensures { λ r. ⌜ r ≡ operandsOf h ⌝ }
+{
+    let w = h as u32;
+    Operands {
+        low3: bits::field(w, 0, 3) as u8,
+        mid3: bits::field(w, 3, 3) as u8,
+        high3: bits::field(w, 6, 3) as u8,
+        bits_10_8: bits::field(w, 8, 3) as u8,
+        imm5: bits::field(w, 6, 5) as u8,
+        imm6: bits::joined(bits::field(w, 9, 1), bits::field(w, 3, 5), 5) as u8,
+        imm8: bits::field(w, 0, 8) as u8,
+        imm11: bits::field(w, 0, 11) as u16,
+        condition: bits::field(w, 8, 4) as u8,
+    }
+}
+
+// The sixteen register operations, 010000.
+fn register_operation(h: u16) -> Instruction
+    requires { ⌜ h / 2 ^ 10 ≡ 16 ⌝ }
+    ensures { λ r. ⌜ r ≡ decode16Of h ⌝ }
+{
+    let f = read_operands(h);
+    let m = f.mid3;
+    let d = f.low3;
+    let op = bits::field(h as u32, 6, 4);
+    Instruction::Straight(
+        match op {
+            0 => Operation::And(m, d),
+            1 => Operation::Eor(m, d),
+            2 => Operation::LslReg(m, d),
+            3 => Operation::LsrReg(m, d),
+            4 => Operation::AsrReg(m, d),
+            5 => Operation::Adc(m, d),
+            6 => Operation::Sbc(m, d),
+            7 => Operation::RorReg(m, d),
+            8 => Operation::Tst(m, d),
+            9 => Operation::Rsb(m, d),
+            10 => Operation::CmpReg(m, d),
+            11 => Operation::Cmn(m, d),
+            12 => Operation::Orr(m, d),
+            13 => Operation::Mul(m, d),
+            14 => Operation::Bic(m, d),
+            _ => Operation::Mvn(m, d),
+        },
+    )
+}
+
+// sxth, sxtb, uxth and uxtb, B2.
+fn extension(h: u16) -> Instruction
+    requires { ⌜ h / 2 ^ 8 ≡ 0xB2 ⌝ }
+    ensures { λ r. ⌜ r ≡ decode16Of h ⌝ }
+{
+    let f = read_operands(h);
+    let m = f.mid3;
+    let d = f.low3;
+    let op = bits::field(h as u32, 6, 2);
+    Instruction::Straight(
+        match op {
+            0 => Operation::Sxth(m, d),
+            1 => Operation::Sxtb(m, d),
+            2 => Operation::Uxth(m, d),
+            _ => Operation::Uxtb(m, d),
+        },
+    )
+}
+
+// mov without flags, 46: the two bits after the top byte are 0.
+fn move_register(h: u16) -> Instruction
+    requires { ⌜ h / 2 ^ 8 ≡ 0x46 ⌝ }
+    ensures { λ r. ⌜ r ≡ decode16Of h ⌝ }
+{
+    let f = read_operands(h);
+    if f.imm8 < 64 {
+        Instruction::Straight(Operation::MovReg(f.mid3, f.low3))
+    } else {
+        Instruction::Unlisted
+    }
+}
+
+// nop, BF00.
+fn nop(h: u16) -> Instruction
+    requires { ⌜ h / 2 ^ 8 ≡ 0xBF ⌝ }
+    ensures { λ r. ⌜ r ≡ decode16Of h ⌝ }
+{
+    if bits::field(h as u32, 0, 8) == 0 {
+        Instruction::Straight(Operation::Nop)
+    } else {
+        Instruction::Unlisted
+    }
+}
+
+// Services, DF: E9 to EF are reserved.
+fn service(h: u16) -> Instruction
+    requires { ⌜ h / 2 ^ 8 ≡ 0xDF ⌝ }
+    ensures { λ r. ⌜ r ≡ decode16Of h ⌝ }
+{
+    let f = read_operands(h);
+    let imm8 = f.imm8;
+    if imm8 < 0xE9 {
+        return Instruction::Service(imm8);
+    }
+    if imm8 < 0xF0 {
+        return Instruction::Unlisted;
+    }
+    Instruction::Service(imm8)
+}
+
+// The instruction of a halfword of class k.
+fn of_class(k: u8, h: u16) -> Instruction
+    requires { ⌜ k ≡ classOf (h / 2 ^ 8) ⌝ }
+    ensures { λ r. ⌜ r ≡ decode16Of h ⌝ }
+{
+    let f = read_operands(h);
+    match k {
+        0 => Instruction::Straight(Operation::LslImm(f.imm5, f.mid3, f.low3)),
+        1 => Instruction::Straight(Operation::LsrImm(f.imm5, f.mid3, f.low3)),
+        2 => Instruction::Straight(Operation::AsrImm(f.imm5, f.mid3, f.low3)),
+        3 => Instruction::Straight(Operation::AddReg(f.high3, f.mid3, f.low3)),
+        4 => Instruction::Straight(Operation::SubReg(f.high3, f.mid3, f.low3)),
+        5 => Instruction::Straight(Operation::AddImm3(f.high3, f.mid3, f.low3)),
+        6 => Instruction::Straight(Operation::SubImm3(f.high3, f.mid3, f.low3)),
+        7 => Instruction::Straight(Operation::MovImm(f.bits_10_8, f.imm8)),
+        8 => Instruction::Straight(Operation::CmpImm(f.bits_10_8, f.imm8)),
+        9 => Instruction::Straight(Operation::AddImm(f.bits_10_8, f.imm8)),
+        10 => Instruction::Straight(Operation::SubImm(f.bits_10_8, f.imm8)),
+        11 => register_operation(h),
+        12 => move_register(h),
+        13 => Instruction::Straight(Operation::LdrLit(f.bits_10_8, f.imm8)),
+        14 => Instruction::Straight(Operation::StrSp(f.bits_10_8, f.imm8)),
+        15 => Instruction::Straight(Operation::LdrSp(f.bits_10_8, f.imm8)),
+        16 => Instruction::Straight(Operation::AddSp(f.bits_10_8, f.imm8)),
+        17 => extension(h),
+        18 => nop(h),
+        19 => Instruction::Cbz(f.imm6, f.low3),
+        20 => Instruction::Cbnz(f.imm6, f.low3),
+        21 => Instruction::Bcc(f.condition, f.imm8),
+        22 => Instruction::B(f.imm11),
+        23 => service(h),
+        _ => Instruction::Unlisted,
+    }
+}
+
+// What a halfword stands for that opens no 32-bit instruction.
+pub fn decode16(h: u16) -> Instruction
+    ensures { λ r. ⌜ r ≡ decode16Of h ⌝ }
+{
+    let t = bits::field(h as u32, 8, 8) as u8;
+    of_class(class(t), h)
+}
+
+// ---- 32 bits
+
+// imm4:i:imm3:imm8 of movw and movt.
+fn imm16(w: u32) -> u16
+    ensures { λ r. ⌜ r ≡ imm16Of w ⌝ }
+{
+    let imm4 = bits::field(w, 16, 4);
+    let i = bits::field(w, 26, 1);
+    let imm3 = bits::field(w, 12, 3);
+    let imm8 = bits::field(w, 0, 8);
+    bits::joined(bits::joined(bits::joined(imm4, i, 1), imm3, 3), imm8, 8) as u16
+}
+
+// movw, movt, sdiv and udiv.
+fn arithmetic(w: u32) -> Instruction
+    ensures { λ r. ⌜ r ≡ decodeBy arithmetic32 w ⌝ }
+{
+    let n = bits::field(w, 16, 3) as u8;
+    let d = bits::field(w, 8, 3) as u8;
+    let m = bits::field(w, 0, 3) as u8;
+    let imm = imm16(w);
+    if w & 0xFBF0_8800 == 0xF240_0000 {
+        return Instruction::Straight(Operation::Movw(imm, d));
+    }
+    if w & 0xFBF0_8800 == 0xF2C0_0000 {
+        return Instruction::Straight(Operation::Movt(imm, d));
+    }
+    if w & 0xFFF8_F8F8 == 0xFB90_F0F0 {
+        return Instruction::Straight(Operation::Sdiv(n, d, m));
+    }
+    if w & 0xFFF8_F8F8 == 0xFBB0_F0F0 {
+        return Instruction::Straight(Operation::Udiv(n, d, m));
+    }
+    Instruction::Unlisted
+}
+
+// Loads and stores by r8 and r9, then the others.
+fn by_word(w: u32) -> Instruction
+    ensures { λ r. ⌜ r ≡ decodeBy listed32 w ⌝ }
+{
+    let n = bits::field(w, 16, 4) as u8;
+    let t = bits::field(w, 12, 3) as u8;
+    let imm12 = bits::field(w, 0, 12) as u16;
+    let store = w & 0xFFFF_8000;
+    let load = w & 0xFFFE_8000;
+    if store == 0xF8C9_0000 {
+        return Instruction::Straight(Operation::Str(t, imm12));
+    }
+    if store == 0xF889_0000 {
+        return Instruction::Straight(Operation::Strb(t, imm12));
+    }
+    if store == 0xF8A9_0000 {
+        return Instruction::Straight(Operation::Strh(t, imm12));
+    }
+    if load == 0xF8D8_0000 {
+        return Instruction::Straight(Operation::Ldr(n, t, imm12));
+    }
+    if load == 0xF898_0000 {
+        return Instruction::Straight(Operation::Ldrb(n, t, imm12));
+    }
+    if load == 0xF8B8_0000 {
+        return Instruction::Straight(Operation::Ldrh(n, t, imm12));
+    }
+    if load == 0xF998_0000 {
+        return Instruction::Straight(Operation::Ldrsb(n, t, imm12));
+    }
+    if load == 0xF9B8_0000 {
+        return Instruction::Straight(Operation::Ldrsh(n, t, imm12));
+    }
+    arithmetic(w)
+}
+
+// What two halfwords stand for, of which the first opens a 32-bit instruction.
+pub fn decode32(first: u16, second: u16) -> Instruction
+    ensures { λ r. ⌜ r ≡ decode32Of first second ⌝ }
+{
+    by_word(bits::joined(first as u32, second as u32, 16))
+}
