@@ -1,0 +1,3 @@
+pub mod Prefix
+pub mod Theorems
+pub mod Reach

@@ -1,0 +1,27 @@
+-- Refusals: their numbers, and the first one that applies to a call.
+use Prim.Native.Nat.{ℕ}
+use mathlib.Core.Bool.{Bool, cond}
+use mathlib.Core.List.{List, [], _∷_}
+use Rattle.refusal.specs.declared.Refusal.{Refusal}
+use Rattle.refusal.specs.declared.Refusal.the-variants.{PageLength, RamLength, ExternalLength, UnfitRecord, UnfitPlace, FormLength, FormRange, NoSuchBundle}
+use Rattle.refusal.specs.declared.Verdict.{Verdict}
+use Rattle.refusal.specs.declared.Verdict.the-variants.{Accepted, Refused}
+
+abbrev pub numberOf : Refusal → ℕ
+numberOf PageLength = 1
+numberOf RamLength = 2
+numberOf ExternalLength = 3
+numberOf UnfitRecord = 4
+numberOf UnfitPlace = 5
+numberOf FormLength = 6
+numberOf FormRange = 7
+numberOf NoSuchBundle = 8
+
+-- a line of a call's refusal table: refused when the test holds
+pub data Rule : Type 0 where
+  rule : Bool → Refusal → Rule
+
+-- a table is read top down; nothing else is refused
+abbrev pub verdict : List Rule → Verdict
+verdict [] = Accepted
+verdict (rule test r ∷ rules) = cond test (Refused r) (verdict rules)

@@ -1,0 +1,37 @@
+// Why a call is refused.
+ghost use mathlib.Core.Path.{_≡_};
+ghost use Rattle.refusal.specs.Refusals.{numberOf};
+
+// In the order of the build paper's numbers, 1 to 8.
+pub enum Refusal {
+    PageLength,
+    RamLength,
+    ExternalLength,
+    UnfitRecord,
+    UnfitPlace,
+    FormLength,
+    FormRange,
+    NoSuchBundle,
+}
+
+// A call's answer to what it was handed.
+pub enum Verdict {
+    Accepted,
+    Refused(Refusal),
+}
+
+// The build paper's number of a refusal.
+pub fn number(r: Refusal) -> u8
+    ensures { λ n. ⌜ n ≡ numberOf r ⌝ }
+{
+    match r {
+        Refusal::PageLength => 1,
+        Refusal::RamLength => 2,
+        Refusal::ExternalLength => 3,
+        Refusal::UnfitRecord => 4,
+        Refusal::UnfitPlace => 5,
+        Refusal::FormLength => 6,
+        Refusal::FormRange => 7,
+        Refusal::NoSuchBundle => 8,
+    }
+}

@@ -1,0 +1,94 @@
+-- Services: what DFxx means by its low byte and, for 01-7F, by the literal word at that bundle number.
+use Prim.Native.Nat.{ℕ, _+_, _*_, _/_, _%_, _^_}
+use mathlib.Core.Bool.{Bool, true, false, cond}
+use mathlib.Core.List.{List, [], _∷_}
+use lib.Dec.{eqb, ltb, leb}
+use lib.ListN.{getD}
+use Rattle.bits.specs.Fields.{bits, bit}
+use Rattle.page.specs.Page.{bundlesIn, wordAt}
+use Rattle.service.specs.declared.Service.{Service}
+use Rattle.service.specs.declared.Service.the-variants.{Return, Call, TailCall, Syscall, TailSyscall, LongBranch, Preload, SetBase, StoreAtSp, LoadAtSp, LowerSp, DirectSyscall, Validate, Breakpoint, CallRegister, TailCallRegister, Bad}
+
+-- ---- the literal word
+
+-- bit 31 clear, by the low bits: 00 call, 01 tail call, 1x bad
+unfoldable pub callOf : ℕ → Service
+callOf w = getD (Call ∷ TailCall ∷ []) (bits w 1 0) Bad
+
+-- top bits 10: a syscall by its number up to 8191; bit 0 set means tail
+unfoldable pub syscallOf : ℕ → Service
+syscallOf w = cond (leb (bits w 29 16) 8191) (cond (bit w 0) TailSyscall Syscall) Bad
+
+-- top bits 110 or 111: operations 0 to 5 on a, the low 24 bits; 3, 4 and 5 are bad under 111
+abbrev pub operations : Bool → ℕ → List Service
+operations external a =
+    LongBranch
+    ∷ Preload
+    ∷ SetBase (cond external 0x80000000 0 + a)
+    ∷ cond external Bad (LowerSp (4 * a))
+    ∷ cond external Bad (StoreAtSp (a / 2 ^ 21) (a % 2 ^ 21))
+    ∷ cond external Bad (LoadAtSp (a / 2 ^ 21) (a % 2 ^ 21))
+    ∷ []
+
+unfoldable pub addressOperationOf : ℕ → Service
+addressOperationOf w = getD (operations (bit w 29) (bits w 23 0)) (bits w 28 24) Bad
+
+unfoldable pub literalOf : ℕ → Service
+literalOf w = cond (bit w 31) (cond (bit w 30) (addressOperationOf w) (syscallOf w)) (callOf w)
+
+-- it must lie in the page
+unfoldable pub byLiteral : List ℕ → ℕ → Service
+byLiteral page n = cond (ltb n (bundlesIn page)) (literalOf (wordAt page n)) Bad
+
+-- ---- the low byte: 00, 01-7F, 80-BF, C0-DF, E0-E7, E8, E9-EF, F0-F7, F8-FF
+
+unfoldable pub serviceOf : List ℕ → ℕ → Service
+serviceOf page n =
+    cond (leb n 0x00) Return
+    (cond (leb n 0x7F) (byLiteral page n)
+    (cond (leb n 0xBF) (DirectSyscall (bits n 5 0))
+    (cond (leb n 0xDF) (LowerSp (4 * bits n 4 0))
+    (cond (leb n 0xE7) (Validate (bits n 2 0))
+    (cond (leb n 0xE8) Breakpoint
+    (cond (leb n 0xEF) Bad
+    (cond (leb n 0xF7) (CallRegister (bits n 2 0)) (TailCallRegister (bits n 2 0)))))))))
+
+-- ---- the columns of the table
+
+abbrev pub exitsOf : Service → Bool
+exitsOf Return = true
+exitsOf Call = true
+exitsOf TailCall = true
+exitsOf Syscall = true
+exitsOf TailSyscall = true
+exitsOf LongBranch = true
+exitsOf Preload = false
+exitsOf (SetBase a) = false
+exitsOf (StoreAtSp t a) = false
+exitsOf (LoadAtSp t a) = false
+exitsOf (LowerSp a) = false
+exitsOf (DirectSyscall n) = true
+exitsOf (Validate n) = false
+exitsOf Breakpoint = true
+exitsOf (CallRegister n) = true
+exitsOf (TailCallRegister n) = true
+exitsOf Bad = false
+
+abbrev pub terminatesOf : Service → Bool
+terminatesOf Return = true
+terminatesOf Call = false
+terminatesOf TailCall = true
+terminatesOf Syscall = false
+terminatesOf TailSyscall = true
+terminatesOf LongBranch = true
+terminatesOf Preload = false
+terminatesOf (SetBase a) = false
+terminatesOf (StoreAtSp t a) = false
+terminatesOf (LoadAtSp t a) = false
+terminatesOf (LowerSp a) = false
+terminatesOf (DirectSyscall n) = false
+terminatesOf (Validate n) = false
+terminatesOf Breakpoint = false
+terminatesOf (CallRegister n) = false
+terminatesOf (TailCallRegister n) = true
+terminatesOf Bad = false

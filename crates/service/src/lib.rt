@@ -1,0 +1,191 @@
+// What a service halfword means, for the reader and the machine alike.
+ghost use mathlib.Core.Path.{_≡_};
+ghost use Rattle.service.specs.Services.{exitsOf, terminatesOf, literalOf, callOf, syscallOf, addressOperationOf, byLiteral, serviceOf};
+
+pub enum Service {
+    Return,
+    // by the literal word
+    Call,
+    TailCall,
+    Syscall,
+    TailSyscall,
+    LongBranch,
+    Preload,
+    // the address
+    SetBase(u32),
+    // register, bytes above SP
+    StoreAtSp(u8, u32),
+    LoadAtSp(u8, u32),
+    // the bytes that SP moves down by, by the literal word or by the halfword
+    LowerSp(u32),
+    // by the halfword alone: number, or register
+    DirectSyscall(u8),
+    Validate(u8),
+    Breakpoint,
+    CallRegister(u8),
+    TailCallRegister(u8),
+    // reserved, or its literal is missing or bad
+    Bad,
+}
+
+// The service ends a run.
+pub fn exits(s: Service) -> bool
+    ensures { λ r. ⌜ r ≡ exitsOf s ⌝ }
+{
+    match s {
+        Service::Return => true,
+        Service::Call => true,
+        Service::TailCall => true,
+        Service::Syscall => true,
+        Service::TailSyscall => true,
+        Service::LongBranch => true,
+        Service::Preload => false,
+        Service::SetBase(_) => false,
+        Service::StoreAtSp(_, _) => false,
+        Service::LoadAtSp(_, _) => false,
+        Service::LowerSp(_) => false,
+        Service::DirectSyscall(_) => true,
+        Service::Validate(_) => false,
+        Service::Breakpoint => true,
+        Service::CallRegister(_) => true,
+        Service::TailCallRegister(_) => true,
+        Service::Bad => false,
+    }
+}
+
+// The service is a terminator: the flow does not go on behind it.
+pub fn terminates(s: Service) -> bool
+    ensures { λ r. ⌜ r ≡ terminatesOf s ⌝ }
+{
+    match s {
+        Service::Return => true,
+        Service::Call => false,
+        Service::TailCall => true,
+        Service::Syscall => false,
+        Service::TailSyscall => true,
+        Service::LongBranch => true,
+        Service::Preload => false,
+        Service::SetBase(_) => false,
+        Service::StoreAtSp(_, _) => false,
+        Service::LoadAtSp(_, _) => false,
+        Service::LowerSp(_) => false,
+        Service::DirectSyscall(_) => false,
+        Service::Validate(_) => false,
+        Service::Breakpoint => false,
+        Service::CallRegister(_) => false,
+        Service::TailCallRegister(_) => true,
+        Service::Bad => false,
+    }
+}
+
+// A literal with bit 31 clear.
+fn call(w: u32) -> Service
+    ensures { λ r. ⌜ r ≡ callOf w ⌝ }
+{
+    let kind = bits::field(w, 0, 2);
+    match kind {
+        0 => Service::Call,
+        1 => Service::TailCall,
+        _ => Service::Bad,
+    }
+}
+
+// A literal whose top bits are 10.
+fn syscall(w: u32) -> Service
+    ensures { λ r. ⌜ r ≡ syscallOf w ⌝ }
+{
+    if bits::field(w, 16, 14) > 8191 {
+        return Service::Bad;
+    }
+    if bits::field(w, 0, 1) == 1 {
+        Service::TailSyscall
+    } else {
+        Service::Syscall
+    }
+}
+
+// A literal whose top bits are 110 or 111.
+fn address_operation(w: u32) -> Service
+    ensures { λ r. ⌜ r ≡ addressOperationOf w ⌝ }
+{
+    let external = bits::field(w, 29, 1);
+    let operation = bits::field(w, 24, 5);
+    let a = bits::field(w, 0, 24);
+    match operation {
+        0 => Service::LongBranch,
+        1 => Service::Preload,
+        2 => Service::SetBase(0x8000_0000 * external + a),
+        3 => if external == 0 {
+            Service::LowerSp(4 * a)
+        } else {
+            Service::Bad
+        },
+        4 => if external == 0 {
+            Service::StoreAtSp((a / 0x20_0000) as u8, a % 0x20_0000)
+        } else {
+            Service::Bad
+        },
+        5 => if external == 0 {
+            Service::LoadAtSp((a / 0x20_0000) as u8, a % 0x20_0000)
+        } else {
+            Service::Bad
+        },
+        _ => Service::Bad,
+    }
+}
+
+// What a literal word stands for.
+pub fn literal(w: u32) -> Service
+    ensures { λ r. ⌜ r ≡ literalOf w ⌝ }
+{
+    if bits::field(w, 31, 1) == 0 {
+        return call(w);
+    }
+    if bits::field(w, 30, 1) == 0 {
+        return syscall(w);
+    }
+    address_operation(w)
+}
+
+// A service by the literal word at bundle n, which must lie in the page.
+fn by_literal(page: &[u8], n: u8) -> Service
+    ensures { λ r. ⌜ r ≡ byLiteral (now (page .entry)) n ⌝ }
+{
+    if (n as usize) < page.len() / 4 {
+        literal(page::word(page, n as u32))
+    } else {
+        Service::Bad
+    }
+}
+
+// The service of the halfword DFxx with low byte n.
+pub fn service_of(page: &[u8], n: u8) -> Service
+    ensures { λ r. ⌜ r ≡ serviceOf (now (page .entry)) n ⌝ }
+{
+    let register = n % 8;
+    if n <= 0x00 {
+        return Service::Return;
+    }
+    if n <= 0x7F {
+        return by_literal(page, n);
+    }
+    if n <= 0xBF {
+        return Service::DirectSyscall(n % 64);
+    }
+    if n <= 0xDF {
+        return Service::LowerSp(4 * ((n % 32) as u32));
+    }
+    if n <= 0xE7 {
+        return Service::Validate(register);
+    }
+    if n <= 0xE8 {
+        return Service::Breakpoint;
+    }
+    if n <= 0xEF {
+        return Service::Bad;
+    }
+    if n <= 0xF7 {
+        return Service::CallRegister(register);
+    }
+    Service::TailCallRegister(register)
+}
