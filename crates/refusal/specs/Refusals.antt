@@ -25,3 +25,9 @@ pub data Rule : Type 0 where
 abbrev pub verdict : List Rule → Verdict
 verdict [] = Accepted
 verdict (rule test r ∷ rules) = cond test (Refused r) (verdict rules)
+
+-- the answer of a call that is accepted, and of one that is refused
+module _ {ℓ} {A : Type ℓ} where
+  abbrev pub whenAccepted : Verdict → A → A → A
+  whenAccepted Accepted answer refused = answer
+  whenAccepted (Refused r) answer refused = refused

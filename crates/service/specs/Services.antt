@@ -1,11 +1,14 @@
 -- Services: what DFxx means by its low byte and, for 01-7F, by the literal word at that bundle number.
 use Prim.Native.Nat.{ℕ, _+_, _*_, _/_, _%_, _^_}
-use mathlib.Core.Bool.{Bool, true, false, cond}
+use mathlib.Core.Bool.{Bool, cond}
 use mathlib.Core.List.{List, [], _∷_}
 use lib.Dec.{eqb, ltb, leb}
 use lib.ListN.{getD}
 use Rattle.bits.specs.Fields.{bits, bit}
 use Rattle.page.specs.Page.{bundlesIn, wordAt}
+use Rattle.service.specs.declared.Ending.{Ending}
+use Rattle.service.specs.declared.Ending.the-variants.{GoesOn, Exit, LastExit}
+use Rattle.service.specs.declared.Ending.the-variants as ending
 use Rattle.service.specs.declared.Service.{Service}
 use Rattle.service.specs.declared.Service.the-variants.{Return, Call, TailCall, Syscall, TailSyscall, LongBranch, Preload, SetBase, StoreAtSp, LoadAtSp, LowerSp, DirectSyscall, Validate, Breakpoint, CallRegister, TailCallRegister, Bad}
 
@@ -53,42 +56,23 @@ serviceOf page n =
     (cond (leb n 0xEF) Bad
     (cond (leb n 0xF7) (CallRegister (bits n 2 0)) (TailCallRegister (bits n 2 0)))))))))
 
--- ---- the columns of the table
+-- ---- exits and terminators: every service that is a terminator is an exit
 
-abbrev pub exitsOf : Service → Bool
-exitsOf Return = true
-exitsOf Call = true
-exitsOf TailCall = true
-exitsOf Syscall = true
-exitsOf TailSyscall = true
-exitsOf LongBranch = true
-exitsOf Preload = false
-exitsOf (SetBase a) = false
-exitsOf (StoreAtSp t a) = false
-exitsOf (LoadAtSp t a) = false
-exitsOf (LowerSp a) = false
-exitsOf (DirectSyscall n) = true
-exitsOf (Validate n) = false
-exitsOf Breakpoint = true
-exitsOf (CallRegister n) = true
-exitsOf (TailCallRegister n) = true
-exitsOf Bad = false
-
-abbrev pub terminatesOf : Service → Bool
-terminatesOf Return = true
-terminatesOf Call = false
-terminatesOf TailCall = true
-terminatesOf Syscall = false
-terminatesOf TailSyscall = true
-terminatesOf LongBranch = true
-terminatesOf Preload = false
-terminatesOf (SetBase a) = false
-terminatesOf (StoreAtSp t a) = false
-terminatesOf (LoadAtSp t a) = false
-terminatesOf (LowerSp a) = false
-terminatesOf (DirectSyscall n) = false
-terminatesOf (Validate n) = false
-terminatesOf Breakpoint = false
-terminatesOf (CallRegister n) = false
-terminatesOf (TailCallRegister n) = true
-terminatesOf Bad = false
+abbrev pub endingOf : Service → Ending
+endingOf Return = LastExit
+endingOf Call = Exit
+endingOf TailCall = LastExit
+endingOf Syscall = Exit
+endingOf TailSyscall = LastExit
+endingOf LongBranch = LastExit
+endingOf Preload = GoesOn
+endingOf (SetBase a) = GoesOn
+endingOf (StoreAtSp t a) = GoesOn
+endingOf (LoadAtSp t a) = GoesOn
+endingOf (LowerSp a) = GoesOn
+endingOf (DirectSyscall n) = Exit
+endingOf (Validate n) = GoesOn
+endingOf Breakpoint = Exit
+endingOf (CallRegister n) = Exit
+endingOf (TailCallRegister n) = LastExit
+endingOf Bad = ending.Bad

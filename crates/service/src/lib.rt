@@ -1,6 +1,6 @@
 // What a service halfword means, for the reader and the machine alike.
 ghost use mathlib.Core.Path.{_≡_};
-ghost use Rattle.service.specs.Services.{exitsOf, terminatesOf, literalOf, callOf, syscallOf, addressOperationOf, byLiteral, serviceOf};
+ghost use Rattle.service.specs.Services.{endingOf, literalOf, callOf, syscallOf, addressOperationOf, byLiteral, serviceOf};
 
 pub enum Service {
     Return,
@@ -28,53 +28,36 @@ pub enum Service {
     Bad,
 }
 
-// The service ends a run.
-pub fn exits(s: Service) -> bool
-    ensures { λ r. ⌜ r ≡ exitsOf s ⌝ }
-{
-    match s {
-        Service::Return => true,
-        Service::Call => true,
-        Service::TailCall => true,
-        Service::Syscall => true,
-        Service::TailSyscall => true,
-        Service::LongBranch => true,
-        Service::Preload => false,
-        Service::SetBase(_) => false,
-        Service::StoreAtSp(_, _) => false,
-        Service::LoadAtSp(_, _) => false,
-        Service::LowerSp(_) => false,
-        Service::DirectSyscall(_) => true,
-        Service::Validate(_) => false,
-        Service::Breakpoint => true,
-        Service::CallRegister(_) => true,
-        Service::TailCallRegister(_) => true,
-        Service::Bad => false,
-    }
+// How the flow goes on at a service: it just goes on; the run ends, and would go on behind it; the run ends at a
+// terminator; the service is bad.
+pub enum Ending {
+    GoesOn,
+    Exit,
+    LastExit,
+    Bad,
 }
 
-// The service is a terminator: the flow does not go on behind it.
-pub fn terminates(s: Service) -> bool
-    ensures { λ r. ⌜ r ≡ terminatesOf s ⌝ }
+pub fn ending_of(s: Service) -> Ending
+    ensures { λ r. ⌜ r ≡ endingOf s ⌝ }
 {
     match s {
-        Service::Return => true,
-        Service::Call => false,
-        Service::TailCall => true,
-        Service::Syscall => false,
-        Service::TailSyscall => true,
-        Service::LongBranch => true,
-        Service::Preload => false,
-        Service::SetBase(_) => false,
-        Service::StoreAtSp(_, _) => false,
-        Service::LoadAtSp(_, _) => false,
-        Service::LowerSp(_) => false,
-        Service::DirectSyscall(_) => false,
-        Service::Validate(_) => false,
-        Service::Breakpoint => false,
-        Service::CallRegister(_) => false,
-        Service::TailCallRegister(_) => true,
-        Service::Bad => false,
+        Service::Return => Ending::LastExit,
+        Service::Call => Ending::Exit,
+        Service::TailCall => Ending::LastExit,
+        Service::Syscall => Ending::Exit,
+        Service::TailSyscall => Ending::LastExit,
+        Service::LongBranch => Ending::LastExit,
+        Service::Preload => Ending::GoesOn,
+        Service::SetBase(_) => Ending::GoesOn,
+        Service::StoreAtSp(_, _) => Ending::GoesOn,
+        Service::LoadAtSp(_, _) => Ending::GoesOn,
+        Service::LowerSp(_) => Ending::GoesOn,
+        Service::DirectSyscall(_) => Ending::Exit,
+        Service::Validate(_) => Ending::GoesOn,
+        Service::Breakpoint => Ending::Exit,
+        Service::CallRegister(_) => Ending::Exit,
+        Service::TailCallRegister(_) => Ending::LastExit,
+        Service::Bad => Ending::Bad,
     }
 }
 

@@ -1,0 +1,16 @@
+-- Branch targets.
+use Prim.Native.Nat.{ℕ, _+_, _*_, _/_, _%_}
+use mathlib.Core.Bool.{cond}
+use lib.Dec.{eqb}
+use lib.IntN.{ℤ, pos, negsuc, _+ℤ_, _*ℤ_}
+use Rattle.branch.specs.declared.Target.{Target}
+use Rattle.branch.specs.declared.Target.the-variants.{Bad, At}
+
+-- the bundle at a byte: one that is no multiple of 4 or lies before the page is bad; at or past the end is not
+unfoldable pub bundleAt : ℤ → Target
+bundleAt (pos n) = cond (eqb (n % 4) 0) (At (n / 4)) Bad
+bundleAt (negsuc n) = Bad
+
+-- PC plus the doubled offset, with PC = address + 4; the address of a place is its double
+abbrev pub targetOf : ℕ → ℤ → Target
+targetOf place offset = bundleAt (pos (2 * place + 4) +ℤ (pos 2 *ℤ offset))

@@ -1,0 +1,31 @@
+-- The largest successor, as the code comes by it. Assumes nothing.
+use mathlib.Core.Path.{_≡_, refl, sym, ap, _∙_}
+use mathlib.Core.Bool.{Bool, true, false}
+use mathlib.Core.List.{List, [], _∷_}
+use Prim.Native.Nat.{ℕ, _+_, _*_}
+use Rattle.prefix.specs.Prefix.{goes}
+use Rattle.prefix.specs.Reach.{insert, reachOf, withSuccessor, reach-insert}
+use Rattle.prefix.specs.declared.Reach.{Reach}
+use Rattle.prefix.specs.declared.Reach.the-variants.{Bad}
+use Rattle.page.specs.Page.{firstOf, secondOf}
+use Rattle.isa.specs.ListedEncodings.{opens32, decode16Of, decode32Of}
+use Rattle.bundle.specs.Successors.{wide, narrow, successorsOf}
+
+pub one-more : (r : Reach) (bs : List ℕ) (s : ℕ) → r ≡ reachOf (goes bs) → withSuccessor r s ≡ reachOf (goes (insert s bs))
+one-more r bs s e = ap (λ (q : Reach). withSuccessor q s) e ∙ sym (reach-insert s bs)
+
+-- ---- bundle k by its halfwords
+
+module _ (page : List ℕ) (k first second : ℕ) (e : first ≡ firstOf page k) (f : second ≡ secondOf page k) where
+  pub wide-case : opens32 first ≡ true → reachOf (wide (decode32Of first second) (k + 1)) ≡ reachOf (successorsOf page k)
+  unfolding successorsOf
+  wide-case o = rw (← e, ← f, o)
+
+  pub late-opening : opens32 first ≡ false → opens32 second ≡ true → Bad ≡ reachOf (successorsOf page k)
+  unfolding successorsOf
+  late-opening o p = rw (← e, ← f, o, p)
+
+  pub narrow-case : opens32 first ≡ false → opens32 second ≡ false
+      → reachOf (narrow page k (decode16Of first) (decode16Of second)) ≡ reachOf (successorsOf page k)
+  unfolding successorsOf
+  narrow-case o p = rw (← e, ← f, o, p)

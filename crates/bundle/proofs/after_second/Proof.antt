@@ -1,0 +1,69 @@
+use mathlib.Core.Path.{_∙_}
+use Rattle.prefix.specs.Reach.{insert}
+use Rattle.bundle.proofs.Laws.{one-more}
+use borrow.Author.Needs.{needs}
+use Rattle.bundle.proofs.after_second.Statement.{statement}
+use Rattle.bundle.proofs.after_second.Tie as tie
+
+enum-told : tie.Need-enum-told
+enum-told c = search needs
+
+enum-told-2 : tie.Need-enum-told-2
+enum-told-2 c = search needs
+
+enum-known-second : tie.Need-enum-known-second
+enum-known-second c = search needs
+
+with-successor-requires : tie.Need-with-successor-requires
+with-successor-requires c κs = search needs
+
+enum-told-3 : tie.Need-enum-told-3
+enum-told-3 c = search needs
+
+with-successor-requires-2 : tie.Need-with-successor-requires-2
+with-successor-requires-2 c κs = search needs
+
+enum-known-second-2 : tie.Need-enum-known-second-2
+enum-known-second-2 c = search needs
+
+with-successor-requires-3 : tie.Need-with-successor-requires-3
+with-successor-requires-3 c κs = search needs
+
+with-successor-requires-4 : tie.Need-with-successor-requires-4
+with-successor-requires-4 c κs = search needs
+
+returns : tie.Need-returns
+returns c = λ bs e. rw (c .enum-told .given .1)
+
+returns-2 : tie.Need-returns-2
+returns-2 c = λ bs e. rw (c .enum-told2 .given .1) e
+
+returns-3 : tie.Need-returns-3
+returns-3 c = λ bs e. rw (c .before .before .second .given .1) (c .with-successor .ensures ∙ one-more _ bs _ e)
+
+returns-4 : tie.Need-returns-4
+returns-4 c = λ bs e. rw (c .before .enum-told3 .given .1) (c .with-successor2 .ensures ∙ one-more _ bs _ e)
+
+returns-5 : tie.Need-returns-5
+returns-5 c = λ bs e.
+    rw (c .before .before .before .second2 .given .1)
+    (c .with-successor4 .ensures ∙ one-more _ (insert (c .before .before .before .before .before .args .next) bs) _ (c .before .with-successor3 .ensures ∙ one-more _ bs _ e))
+
+pub after-second-spec : {M : Type 1} → statement M
+after-second-spec =
+    tie.close
+    (tie.spec
+    enum-told
+    enum-told-2
+    enum-known-second
+    with-successor-requires
+    enum-told-3
+    with-successor-requires-2
+    enum-known-second-2
+    with-successor-requires-3
+    with-successor-requires-4
+    returns
+    returns-2
+    returns-3
+    returns-4
+    returns-5)

@@ -1,0 +1,3 @@
+pub mod Flow
+pub mod Successors
+pub mod Reader

@@ -1,0 +1,48 @@
+-- The successors of a bundle: bad, or at most three, ascending and without repeats.
+use Prim.Native.Nat.{ℕ, _+_, _*_}
+use mathlib.Core.Bool.{Bool, cond}
+use mathlib.Core.List.{List, [], _∷_}
+use mathlib.Core.Path.{_≡_}
+use Rattle.prefix.specs.Prefix.{Successors, bad, goes}
+use Rattle.prefix.specs.Reach.{insert, reachOf}
+use Rattle.prefix.specs.declared.Reach.{Reach}
+use Rattle.page.specs.Page.{firstOf, secondOf}
+use Rattle.isa.specs.ListedEncodings.{opens32, decode16Of, decode32Of}
+use Rattle.isa.specs.declared.Instruction.{Instruction}
+use Rattle.bundle.specs.Flow.{flowOf, listed}
+use Rattle.bundle.specs.declared.Flow.{Flow}
+use Rattle.bundle.specs.declared.Flow.the-variants.{Bad, Next, NextOr, To, Stop}
+
+-- the second instruction, behind a first one that goes on and has the targets bs
+abbrev pub afterSecond : List ℕ → Flow → ℕ → Successors
+afterSecond bs Bad next = bad
+afterSecond bs Stop next = goes bs
+afterSecond bs (To b) next = goes (insert b bs)
+afterSecond bs Next next = goes (insert next bs)
+afterSecond bs (NextOr b) next = goes (insert b (insert next bs))
+
+-- behind a terminator the second must match a listed encoding, and brings no successor
+abbrev pub afterFirst : Flow → Bool → Flow → ℕ → Successors
+afterFirst Bad secondListed second next = bad
+afterFirst Stop secondListed second next = cond secondListed (goes []) bad
+afterFirst (To b) secondListed second next = cond secondListed (goes (b ∷ [])) bad
+afterFirst Next secondListed second next = afterSecond [] second next
+afterFirst (NextOr b) secondListed second next = afterSecond (b ∷ []) second next
+
+-- one 32-bit instruction
+abbrev pub wide : Instruction → ℕ → Successors
+wide i next = cond (listed i) (goes (next ∷ [])) bad
+
+-- two 16-bit instructions of bundle k, at places 2k and 2k+1
+abbrev pub narrow : List ℕ → ℕ → Instruction → Instruction → Successors
+narrow page k i j = afterFirst (flowOf page (2 * k) i) (listed j) (flowOf page (2 * k + 1) j) (k + 1)
+
+-- a 32-bit opening after a 16-bit first half makes the bundle bad
+unfoldable pub successorsOf : List ℕ → ℕ → Successors
+successorsOf page k =
+    cond (opens32 (firstOf page k)) (wide (decode32Of (firstOf page k) (secondOf page k)) (k + 1))
+    (cond (opens32 (secondOf page k)) bad (narrow page k (decode16Of (firstOf page k)) (decode16Of (secondOf page k))))
+
+-- what the largest successor comes to behind a first half whose targets come to r
+abbrev pub SecondReach : Reach → Flow → ℕ → Reach → Type 0
+SecondReach r second next q = (bs : List ℕ) → r ≡ reachOf (goes bs) → q ≡ reachOf (afterSecond bs second next)

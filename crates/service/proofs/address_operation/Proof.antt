@@ -1,0 +1,127 @@
+use mathlib.Core.Path.{_≡_, sym, _∙_}
+use mathlib.Core.List.{List}
+use lib.ListN.{getD, List·getD-eq-default}
+use Rattle.bits.specs.Fields.{bit}
+use Rattle.laws.specs.Runs.{past}
+use Rattle.service.specs.declared.Service.{Service}
+use Rattle.service.specs.declared.Service.the-variants.{Bad}
+use Rattle.service.specs.Services.{operations, addressOperationOf}
+use Rattle.service.proofs.Laws.{clear, set, times}
+use borrow.Author.Needs.{needs}
+use Rattle.service.proofs.address_operation.Statement.{statement}
+use Rattle.service.proofs.address_operation.Tie as tie
+
+field-requires : tie.Need-field-requires
+field-requires c κs = search needs
+
+field-requires-2 : tie.Need-field-requires-2
+field-requires-2 c κs = search needs
+
+field-requires-3 : tie.Need-field-requires-3
+field-requires-3 c κs = search needs
+
+mul-t6 : tie.Need-mul-t6
+mul-t6 c = search needs
+
+add-t7 : tie.Need-add-t7
+add-t7 c = search needs
+
+mul-t10 : tie.Need-mul-t10
+mul-t10 c = search needs
+
+cast-t14 : tie.Need-cast-t14
+cast-t14 c = search needs
+
+cast-t19 : tie.Need-cast-t19
+cast-t19 c = search needs
+
+-- by the fields that the code reads
+abbrev listed : tie.After-field3 → List Service
+listed c = operations (bit (c .before .before .before .args .w) 29) (c .field3 .result)
+
+by-fields : (c : tie.After-field3) → addressOperationOf (c .before .before .before .args .w) ≡ getD (listed c) (c .before .field2 .result) Bad
+unfolding addressOperationOf
+by-fields c = cc
+
+returns : tie.Need-returns
+returns c = rw (by-fields (c .before), c .match .keys1)
+
+returns-2 : tie.Need-returns-2
+returns-2 c = rw (by-fields (c .before), c .match .keys2)
+
+returns-3 : tie.Need-returns-3
+returns-3 c = rw (by-fields (c .before), c .match .keys3, times _ 29 (c .before .before .before .field .ensures))
+
+returns-4 : tie.Need-returns-4
+returns-4 c =
+    rw (
+      by-fields (c .before .before),
+      c .before .match .keys4,
+      clear _ 29 (c .before .before .before .before .field .ensures) (c .if1 .taken),
+    )
+
+returns-5 : tie.Need-returns-5
+returns-5 c =
+    rw (
+      by-fields (c .before .before),
+      c .before .match .keys4,
+      set _ 29 (c .before .before .before .before .field .ensures) (c .if1 .left),
+    )
+
+returns-6 : tie.Need-returns-6
+returns-6 c =
+    rw (
+      by-fields (c .before .before),
+      c .before .match .keys5,
+      clear _ 29 (c .before .before .before .before .field .ensures) (c .if2 .taken),
+    )
+
+returns-7 : tie.Need-returns-7
+returns-7 c =
+    rw (
+      by-fields (c .before .before),
+      c .before .match .keys5,
+      set _ 29 (c .before .before .before .before .field .ensures) (c .if2 .left),
+    )
+
+returns-8 : tie.Need-returns-8
+returns-8 c =
+    rw (
+      by-fields (c .before .before),
+      c .before .match .keys6,
+      clear _ 29 (c .before .before .before .before .field .ensures) (c .if3 .taken),
+    )
+
+returns-9 : tie.Need-returns-9
+returns-9 c =
+    rw (
+      by-fields (c .before .before),
+      c .before .match .keys6,
+      set _ 29 (c .before .before .before .before .field .ensures) (c .if3 .left),
+    )
+
+returns-10 : tie.Need-returns-10
+returns-10 c = sym (by-fields (c .before) ∙ List·getD-eq-default (listed (c .before)) Bad (past 6 (c .match .rest)))
+
+pub address-operation-spec : {M : Type 1} → statement M
+address-operation-spec =
+    tie.close
+    (tie.spec
+    field-requires
+    field-requires-2
+    field-requires-3
+    mul-t6
+    add-t7
+    mul-t10
+    cast-t14
+    cast-t19
+    returns
+    returns-2
+    returns-3
+    returns-4
+    returns-5
+    returns-6
+    returns-7
+    returns-8
+    returns-9
+    returns-10)

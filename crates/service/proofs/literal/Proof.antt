@@ -1,0 +1,55 @@
+use Rattle.service.specs.Services.{literalOf}
+use Rattle.service.proofs.Laws.{clear, set}
+use borrow.Author.Needs.{needs}
+use Rattle.service.proofs.literal.Statement.{statement}
+use Rattle.service.proofs.literal.Tie as tie
+
+field-requires : tie.Need-field-requires
+field-requires c κs = search needs
+
+call-requires : tie.Need-call-requires
+call-requires c κs = search needs
+
+returns : tie.Need-returns
+unfolding literalOf
+returns c = rw (clear _ 31 (c .before .before .field .ensures) (c .before .if1 .taken)) (c .call .ensures)
+
+field-requires-2 : tie.Need-field-requires-2
+field-requires-2 c κs = search needs
+
+syscall-requires : tie.Need-syscall-requires
+syscall-requires c κs = search needs
+
+returns-2 : tie.Need-returns-2
+unfolding literalOf
+returns-2 c =
+    rw (
+      set _ 31 (c .before .before .before .before .field .ensures) (c .before .before .before .if1 .left),
+      clear _ 30 (c .before .before .field2 .ensures) (c .before .if2 .taken),
+    )
+    (c .syscall .ensures)
+
+address-operation-requires : tie.Need-address-operation-requires
+address-operation-requires c κs = search needs
+
+returns-3 : tie.Need-returns-3
+unfolding literalOf
+returns-3 c =
+    rw (
+      set _ 31 (c .before .before .before .before .field .ensures) (c .before .before .before .if1 .left),
+      set _ 30 (c .before .before .field2 .ensures) (c .before .if2 .left),
+    )
+    (c .address-operation .ensures)
+
+pub literal-spec : {M : Type 1} → statement M
+literal-spec =
+    tie.close
+    (tie.spec
+    field-requires
+    call-requires
+    returns
+    field-requires-2
+    syscall-requires
+    returns-2
+    address-operation-requires
+    returns-3)

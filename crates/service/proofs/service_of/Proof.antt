@@ -1,0 +1,133 @@
+use native.Mathlib.Nat.{div-one}
+use borrow.Author.Tests.{le-leb, lt-leb}
+use Rattle.service.specs.Services.{serviceOf}
+use borrow.Author.Needs.{needs}
+use Rattle.service.proofs.service_of.Statement.{statement}
+use Rattle.service.proofs.service_of.Tie as tie
+
+returns : tie.Need-returns
+unfolding serviceOf
+returns c = rw (le-leb _ _ (c .if1 .taken))
+
+by-literal-requires : tie.Need-by-literal-requires
+by-literal-requires c κs = search needs
+
+returns-2 : tie.Need-returns-2
+unfolding serviceOf
+returns-2 c =
+    rw (
+      lt-leb _ _ (c .before .before .if1 .left),
+      le-leb _ _ (c .before .if2 .taken),
+    )
+    (c .by-literal .ensures)
+
+returns-3 : tie.Need-returns-3
+unfolding serviceOf
+returns-3 c =
+    rw (
+      lt-leb _ _ (c .before .before .if1 .left),
+      lt-leb _ _ (c .before .if2 .left),
+      le-leb _ _ (c .if3 .taken),
+      div-one,
+    )
+
+cast-t7 : tie.Need-cast-t7
+cast-t7 c = search needs
+
+mul-t8 : tie.Need-mul-t8
+mul-t8 c = search needs
+
+returns-4 : tie.Need-returns-4
+unfolding serviceOf
+returns-4 c =
+    rw (
+      lt-leb _ _ (c .before .before .before .if1 .left),
+      lt-leb _ _ (c .before .before .if2 .left),
+      lt-leb _ _ (c .before .if3 .left),
+      le-leb _ _ (c .if4 .taken),
+      div-one,
+    )
+
+returns-5 : tie.Need-returns-5
+unfolding serviceOf
+returns-5 c =
+    rw (
+      lt-leb _ _ (c .before .before .before .before .if1 .left),
+      lt-leb _ _ (c .before .before .before .if2 .left),
+      lt-leb _ _ (c .before .before .if3 .left),
+      lt-leb _ _ (c .before .if4 .left),
+      le-leb _ _ (c .if5 .taken),
+      div-one,
+    )
+
+returns-6 : tie.Need-returns-6
+unfolding serviceOf
+returns-6 c =
+    rw (
+      lt-leb _ _ (c .before .before .before .before .before .if1 .left),
+      lt-leb _ _ (c .before .before .before .before .if2 .left),
+      lt-leb _ _ (c .before .before .before .if3 .left),
+      lt-leb _ _ (c .before .before .if4 .left),
+      lt-leb _ _ (c .before .if5 .left),
+      le-leb _ _ (c .if6 .taken),
+    )
+
+returns-7 : tie.Need-returns-7
+unfolding serviceOf
+returns-7 c =
+    rw (
+      lt-leb _ _ (c .before .before .before .before .before .before .if1 .left),
+      lt-leb _ _ (c .before .before .before .before .before .if2 .left),
+      lt-leb _ _ (c .before .before .before .before .if3 .left),
+      lt-leb _ _ (c .before .before .before .if4 .left),
+      lt-leb _ _ (c .before .before .if5 .left),
+      lt-leb _ _ (c .before .if6 .left),
+      le-leb _ _ (c .if7 .taken),
+    )
+
+returns-8 : tie.Need-returns-8
+unfolding serviceOf
+returns-8 c =
+    rw (
+      lt-leb _ _ (c .before .before .before .before .before .before .before .if1 .left),
+      lt-leb _ _ (c .before .before .before .before .before .before .if2 .left),
+      lt-leb _ _ (c .before .before .before .before .before .if3 .left),
+      lt-leb _ _ (c .before .before .before .before .if4 .left),
+      lt-leb _ _ (c .before .before .before .if5 .left),
+      lt-leb _ _ (c .before .before .if6 .left),
+      lt-leb _ _ (c .before .if7 .left),
+      le-leb _ _ (c .if8 .taken),
+      div-one,
+    )
+
+returns-9 : tie.Need-returns-9
+unfolding serviceOf
+returns-9 c =
+    rw (
+      lt-leb _ _ (c .before .before .before .before .before .before .before .if1 .left),
+      lt-leb _ _ (c .before .before .before .before .before .before .if2 .left),
+      lt-leb _ _ (c .before .before .before .before .before .if3 .left),
+      lt-leb _ _ (c .before .before .before .before .if4 .left),
+      lt-leb _ _ (c .before .before .before .if5 .left),
+      lt-leb _ _ (c .before .before .if6 .left),
+      lt-leb _ _ (c .before .if7 .left),
+      lt-leb _ _ (c .if8 .left),
+      div-one,
+    )
+
+pub service-of-spec : {M : Type 1} → statement M
+service-of-spec =
+    tie.close
+    (tie.spec
+    returns
+    by-literal-requires
+    returns-2
+    returns-3
+    cast-t7
+    mul-t8
+    returns-4
+    returns-5
+    returns-6
+    returns-7
+    returns-8
+    returns-9)

@@ -1,0 +1,38 @@
+use borrow.Author.Tests.{le-leb, lt-leb, ne-eqb}
+use Rattle.service.specs.Services.{syscallOf}
+use borrow.Author.Needs.{needs}
+use Rattle.service.proofs.syscall.Statement.{statement}
+use Rattle.service.proofs.syscall.Tie as tie
+
+field-requires : tie.Need-field-requires
+field-requires c κs = search needs
+
+returns : tie.Need-returns
+unfolding syscallOf
+returns c = rw (← c .before .field .ensures, lt-leb _ _ (c .if1 .taken))
+
+field-requires-2 : tie.Need-field-requires-2
+field-requires-2 c κs = search needs
+
+returns-2 : tie.Need-returns-2
+unfolding syscallOf
+returns-2 c =
+    rw (
+      ← c .before .before .before .field .ensures,
+      le-leb _ _ (c .before .before .if1 .left),
+      ← c .before .field2 .ensures,
+      c .if2 .taken,
+    )
+
+returns-3 : tie.Need-returns-3
+unfolding syscallOf
+returns-3 c =
+    rw (
+      ← c .before .before .before .field .ensures,
+      le-leb _ _ (c .before .before .if1 .left),
+      ← c .before .field2 .ensures,
+      ne-eqb _ _ (c .if2 .left),
+    )
+
+pub syscall-spec : {M : Type 1} → statement M
+syscall-spec = tie.close (tie.spec field-requires returns field-requires-2 returns-2 returns-3)
