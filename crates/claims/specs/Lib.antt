@@ -1,0 +1,3 @@
+pub mod Pages
+pub mod Demand2
+pub mod Examples

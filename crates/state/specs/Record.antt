@@ -1,0 +1,50 @@
+-- The record: its parts read and changed, the fresh record, fit records.
+use Prim.Native.Nat.{ℕ, _%_, _^_}
+use mathlib.Core.Bool.{Bool, true, false, _&&_}
+use lib.Dec.{eqb, ltb, leb}
+use lib.ListN.{getD, set, replicate}
+use Rattle.arm.specs.declared.Flags.{Flags}
+use Rattle.state.specs.declared.Base.{Base}
+use Rattle.state.specs.declared.Base.the-variants.{Nothing, Ram, External}
+use Rattle.state.specs.declared.Record.{Record}
+
+-- all zero, SP 0x18000, base none
+abbrev pub freshRecord : Record
+freshRecord = record {
+  regs = replicate 8 0;
+  sp = 0x18000;
+  flags = record { n = false; z = false; c = false; v = false };
+  place = 0;
+  base = Nothing;
+}
+
+abbrev pub register : Record → ℕ → ℕ
+register r k = getD (r .regs) k 0
+
+unfoldable pub withRegister : Record → ℕ → ℕ → Record
+withRegister r k x = record { regs = set (r .regs) k x; sp = r .sp; flags = r .flags; place = r .place; base = r .base }
+
+unfoldable pub withSp : Record → ℕ → Record
+withSp r x = record { regs = r .regs; sp = x; flags = r .flags; place = r .place; base = r .base }
+
+unfoldable pub withFlags : Record → Flags → Record
+withFlags r f = record { regs = r .regs; sp = r .sp; flags = f; place = r .place; base = r .base }
+
+unfoldable pub withPlace : Record → ℕ → Record
+withPlace r p = record { regs = r .regs; sp = r .sp; flags = r .flags; place = p; base = r .base }
+
+unfoldable pub withBase : Record → Base → Record
+withBase r b = record { regs = r .regs; sp = r .sp; flags = r .flags; place = r .place; base = b }
+
+-- SP from 0x10000 to 0x18000 and a multiple of 4
+abbrev pub spFits : ℕ → Bool
+spFits sp = leb 0x10000 sp && leb sp 0x18000 && eqb (sp % 4) 0
+
+-- a RAM offset below 2 ^ 20; an external offset below the data's length
+abbrev pub baseFits : Base → ℕ → Bool
+baseFits Nothing external = true
+baseFits (Ram o) external = ltb o (2 ^ 20)
+baseFits (External o) external = ltb o external
+
+unfoldable pub fitRecord : Record → ℕ → Bool
+fitRecord r external = spFits (r .sp) && baseFits (r .base) external

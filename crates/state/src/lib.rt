@@ -1,0 +1,197 @@
+// The record of the machine, by value, and base validation.
+ghost use mathlib.Core.Path.{_≡_};
+ghost use lib.ListN.{length, getD, set};
+ghost use Rattle.state.specs.Record.{register, withRegister, withSp, withFlags, withPlace, withBase, freshRecord, baseFits, fitRecord};
+ghost use Rattle.state.specs.Validation.{externalFits, validated, validateBase};
+use arm::Flags;
+use refusal::Refusal;
+use refusal::Verdict;
+
+// What a load or a store goes by: nothing, an offset in RAM, or an offset in the external data.
+pub enum Base {
+    Nothing,
+    Ram(u32),
+    External(u32),
+}
+
+pub struct Record {
+    pub regs: [u32; 8],
+    pub sp: u32,
+    pub flags: Flags,
+    pub place: u16,
+    pub base: Base,
+}
+
+// What base validation answers.
+pub struct Validated {
+    pub verdict: Verdict,
+    pub base: Base,
+}
+
+pub fn fresh_record() -> Record
+    ensures { λ r. ⌜ r ≡ freshRecord ⌝ }
+{
+    Record {
+        regs: [0u32; 8],
+        sp: 0x18000,
+        flags: Flags {
+            n: false,
+            z: false,
+            c: false,
+            v: false,
+        },
+        place: 0,
+        base: Base::Nothing,
+    }
+}
+
+// ---- the parts of a record, read and changed
+
+// Number k of the eight; there is none from 8 on, and 0 is read.
+fn element(regs: [u32; 8], k: u8) -> u32
+    ensures { λ x. ⌜ x ≡ getD regs k 0 ⌝ }
+{
+    let i = k as usize;
+    if i < 8 { regs[i] } else { 0 }
+}
+
+// Number k of the eight is x; from 8 on nothing changes.
+fn with_element(regs: [u32; 8], k: u8, x: u32) -> [u32; 8]
+    ensures { λ s. ⌜ s ≡ set regs k x ⌝ }
+{
+    let i = k as usize;
+    let mut changed = regs;
+    if i < 8 {
+        changed[i] = x;
+    }
+    changed
+}
+
+// Register k.
+pub fn register_of(r: Record, k: u8) -> u32
+    ensures { λ x. ⌜ x ≡ register r k ⌝ }
+{
+    let regs = r.regs;
+    element(regs, k)
+}
+
+// Register k is x.
+pub fn set_register(r: Record, k: u8, x: u32) -> Record
+    ensures { λ s. ⌜ s ≡ withRegister r k x ⌝ }
+{
+    let regs = r.regs;
+    let changed = with_element(regs, k, x);
+    let mut s = r;
+    s.regs = changed;
+    s
+}
+
+pub fn set_sp(r: Record, x: u32) -> Record
+    ensures { λ s. ⌜ s ≡ withSp r x ⌝ }
+{
+    let mut s = r;
+    s.sp = x;
+    s
+}
+
+pub fn set_flags(r: Record, f: Flags) -> Record
+    ensures { λ s. ⌜ s ≡ withFlags r f ⌝ }
+{
+    let mut s = r;
+    s.flags = f;
+    s
+}
+
+pub fn set_place(r: Record, p: u16) -> Record
+    ensures { λ s. ⌜ s ≡ withPlace r p ⌝ }
+{
+    let mut s = r;
+    s.place = p;
+    s
+}
+
+pub fn set_base(r: Record, b: Base) -> Record
+    ensures { λ s. ⌜ s ≡ withBase r b ⌝ }
+{
+    let regs = r.regs;
+    let flags = r.flags;
+    Record {
+        regs,
+        sp: r.sp,
+        flags,
+        place: r.place,
+        base: b,
+    }
+}
+
+// ---- fit records and validation
+
+// The base fits external data of so many bytes.
+fn base_fits(b: Base, external: usize) -> bool
+    ensures { λ t. ⌜ t ≡ baseFits b external ⌝ }
+{
+    match b {
+        Base::Nothing => true,
+        Base::Ram(o) => o < 0x10_0000,
+        Base::External(o) => (o as usize) < external,
+    }
+}
+
+// The record is fit, with external data of so many bytes.
+pub fn is_fit(r: Record, external: usize) -> bool
+    ensures { λ t. ⌜ t ≡ fitRecord r external ⌝ }
+{
+    let sp = r.sp;
+    let b = r.base;
+    if sp < 0x10000 {
+        return false;
+    }
+    if sp > 0x18000 {
+        return false;
+    }
+    if sp % 4 != 0 {
+        return false;
+    }
+    base_fits(b, external)
+}
+
+// External data has an allowed length.
+pub fn external_fits(external: &[u8]) -> bool
+    ensures { λ t. ⌜ t ≡ externalFits (length (now (external .entry))) ⌝ }
+{
+    if external.len() > 16_777_216 {
+        return false;
+    }
+    external.len() % 256 == 0
+}
+
+// The base of an address, with external data of so many bytes.
+pub fn base_of(v: u32, external: usize) -> Base
+    ensures { λ b. ⌜ b ≡ validated v external ⌝ }
+{
+    if v < 0x8000_0000 {
+        return Base::Ram((v + 0x10_0000 - 0x1_0000) % 0x10_0000);
+    }
+    let offset = v - 0x8000_0000;
+    if (offset as usize) < external {
+        Base::External(offset)
+    } else {
+        Base::Nothing
+    }
+}
+
+// Base validation.
+pub fn validate(v: u32, external: &[u8]) -> Validated
+    ensures { λ r. ⌜ r ≡ validateBase v (length (now (external .entry))) ⌝ }
+{
+    if !external_fits(external) {
+        return Validated {
+            verdict: Verdict::Refused(Refusal::ExternalLength),
+            base: Base::Nothing,
+        };
+    }
+    Validated {
+        verdict: Verdict::Accepted,
+        base: base_of(v, external.len()),
+    }
+}
