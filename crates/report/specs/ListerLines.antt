@@ -1,0 +1,47 @@
+-- The lines that the lister prints. Every line ends with a newline.
+use Prim.Native.Nat.{ℕ}
+use mathlib.Core.Bool.{Bool, true, false}
+use mathlib.Core.List.{List, [], _∷_, _++_}
+use Rattle.prefix.specs.declared.Reach.{Reach}
+use Rattle.prefix.specs.declared.Reach.the-variants.{Bad, Nothing, Largest}
+use Rattle.refusal.specs.declared.Refusal.{Refusal}
+use Rattle.refusal.specs.Refusals.{numberOf}
+use Rattle.report.specs.Digits.{hex, decimal}
+use Rattle.report.specs.Words.{space, newline}
+
+-- "bundles "
+abbrev bundlesWord : List ℕ
+bundlesWord = 98 ∷ 117 ∷ 110 ∷ 100 ∷ 108 ∷ 101 ∷ 115 ∷ 32 ∷ []
+
+-- " count "
+abbrev countWord : List ℕ
+countWord = 32 ∷ 99 ∷ 111 ∷ 117 ∷ 110 ∷ 116 ∷ 32 ∷ []
+
+-- how many bundles the page has, and its count
+unfoldable pub headText : ℕ → ℕ → List ℕ
+headText bundles count = bundlesWord ++ decimal bundles ++ countWord ++ decimal count ++ newline
+
+-- "ok" below the count, "out" at or above it
+unfoldable pub insideText : Bool → List ℕ
+insideText true = 111 ∷ 107 ∷ []
+insideText false = 111 ∷ 117 ∷ 116 ∷ []
+
+-- the largest successor: "bad" for a bad bundle, "-" for none
+unfoldable pub reachText : Reach → List ℕ
+reachText Bad = 98 ∷ 97 ∷ 100 ∷ []
+reachText Nothing = 45 ∷ []
+reachText (Largest s) = decimal s
+
+-- bundle k: its halfwords, whether it lies below the count, its largest successor
+unfoldable pub bundleText : ℕ → ℕ → ℕ → Bool → Reach → List ℕ
+bundleText k first second inside reach =
+    decimal k ++ space ++ hex 4 first ++ space ++ hex 4 second ++ space
+    ++ insideText inside ++ space ++ reachText reach ++ newline
+
+-- "refused "
+abbrev refusedWord : List ℕ
+refusedWord = 114 ∷ 101 ∷ 102 ∷ 117 ∷ 115 ∷ 101 ∷ 100 ∷ 32 ∷ []
+
+-- a refusal, by its number
+unfoldable pub refusedText : Refusal → List ℕ
+refusedText refusal = refusedWord ++ decimal (numberOf refusal) ++ newline
