@@ -21,7 +21,7 @@ pub fn width(size: Size) -> usize
 }
 
 // A byte; 0 past the end.
-fn byte(bytes: &[u8], i: usize) -> u8
+pub fn byte(bytes: &[u8], i: usize) -> u8
     ensures { λ b. ⌜ b ≡ getD (now (bytes .entry)) i 0 ⌝ }
 {
     if i < bytes.len() { bytes[i] } else { 0 }

@@ -6,10 +6,6 @@ use Rattle.endian.specs.LittleEndian.{loadLE}
 use Rattle.endian.specs.Theorems.{load-step, load-start, load-end, load-short, width-le}
 use Rattle.endian.proofs.load.Statement.{statement}
 use Rattle.endian.proofs.load.Tie as tie
-use Rattle.endian.proofs.load.Reads as reads
-use Rattle.endian.proofs.load.Lts as lts
-use Rattle.endian.proofs.byte.Reads as byte-reads
-use Rattle.endian.proofs.width.Reads as width-reads
 
 abbrev Inv-loop : tie.InvT-loop
 Inv-loop bytes at at' x₀ i₀ x i = (i ≤ i₀) × (x ≡ loadLE (i₀ - i) bytes (at + i))
@@ -17,31 +13,24 @@ Inv-loop bytes at at' x₀ i₀ x i = (i ≤ i₀) × (x ≡ loadLE (i₀ - i) b
 abbrev μ-loop : tie.MeasureT-loop
 μ-loop bytes at at' x₀ i₀ x i = i
 
--- src/lib.rt:45:9
 width-requires : tie.Need-width-requires Inv-loop μ-loop
 width-requires c κs = tt
 
--- src/lib.rt:46:5
 loop-holds : tie.Need-loop-holds Inv-loop μ-loop
 loop-holds c = (omega arith, load-start (c .width .result) (c .before .before .args .at + c .width .result) (c .before .before .args .bytes .now))
 
--- src/lib.rt:47:9
 sub-i : tie.Need-sub-i Inv-loop μ-loop
 sub-i c = omega arith
 
--- src/lib.rt:48:29
 add-byte : tie.Need-add-byte Inv-loop μ-loop
 add-byte c = omega (arith, width-le (c .before .before .before .before .args .size), c .before .before .width .ensures)
 
--- src/lib.rt:48:17
 byte-requires : tie.Need-byte-requires Inv-loop μ-loop
 byte-requires c κs = tt
 
--- src/lib.rt:48:17
 cast-b : tie.Need-cast-b Inv-loop μ-loop
 cast-b c = search needs
 
--- src/lib.rt:49:13
 -- what was read so far leaves room for a byte more
 short : (c : tie.After-byte Inv-loop μ-loop) → c .before .before .loop .x < 2 ^ 24
 short c =
@@ -52,28 +41,23 @@ short c =
 mul-x : tie.Need-mul-x Inv-loop μ-loop
 mul-x c = omega (arith, short c)
 
--- src/lib.rt:49:13
 add-x : tie.Need-add-x Inv-loop μ-loop
 add-x c = omega (arith, short c)
 
--- src/lib.rt:46:5
 loop-less : tie.Need-loop-less Inv-loop μ-loop
 loop-less c = omega arith
 
--- src/lib.rt:46:5
 loop-again : tie.Need-loop-again Inv-loop μ-loop
-loop-again c = 
+loop-again c =
     let s = c .before .before .before .before .before in
     let w = c .before .before .before .width .result in
-    let i = c .before .before .loop .i in
-    (
+    let i = c .before .before .loop .i in (
       omega arith,
       rw (c .before .before .loop .inv .1, c .byte .ensures) (load-step w i (s .args .at) (s .args .bytes .now) (omega arith) (omega arith)),
     )
 
--- src/lib.rt:40:1
 returns : tie.Need-returns Inv-loop μ-loop
-returns c = 
+returns c =
     let s = c .before .before .before .before in
     c .before .loop .inv .1
     ∙ load-end (c .before .before .width .result) (c .before .loop .i) (s .args .at) (s .args .bytes .now) (omega arith)

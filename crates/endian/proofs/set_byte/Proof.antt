@@ -3,22 +3,16 @@ use lib.Seq.{set-out}
 use borrow.Author.Needs.{needs}
 use Rattle.endian.proofs.set_byte.Statement.{statement}
 use Rattle.endian.proofs.set_byte.Tie as tie
-use Rattle.endian.proofs.set_byte.Reads as reads
-use Rattle.endian.proofs.set_byte.Lts as lts
 
--- src/lib.rt:35:9
 slice-write-bytes : tie.Need-slice-write-bytes
 slice-write-bytes c = search needs
 
--- src/lib.rt:31:1
 same-length : tie.Need-same-length
 same-length c = search needs
 
--- src/lib.rt:31:1
 returns : tie.Need-returns
 returns c = search needs
 
--- src/lib.rt:31:1
 returns-2 : tie.Need-returns-2
 returns-2 c = sym (set-out (c .before .args .bytes .now) (c .before .args .i) (c .before .args .b) (c .if1 .left))
 

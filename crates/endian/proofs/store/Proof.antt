@@ -1,5 +1,5 @@
 use mathlib.Core.Path.{_≡_, refl, sym, ap, _∙_}
-use Prim.Native.Nat.{_+_, _-_, _%_, _≤_}
+use Prim.Native.Nat.{_+_, _-_, _≤_}
 use native.Mathlib.Omega.{arith}
 use borrow.Author.Needs.{needs}
 use lib.ListN.{length, length-set}
@@ -7,10 +7,6 @@ use Rattle.endian.specs.LittleEndian.{storeLE}
 use Rattle.endian.specs.Theorems.{store-step, store-start, store-end, width-le}
 use Rattle.endian.proofs.store.Statement.{statement}
 use Rattle.endian.proofs.store.Tie as tie
-use Rattle.endian.proofs.store.Reads as reads
-use Rattle.endian.proofs.store.Lts as lts
-use Rattle.endian.proofs.set_byte.Reads as set-byte-reads
-use Rattle.endian.proofs.width.Reads as width-reads
 
 abbrev Inv-loop : tie.InvT-loop
 Inv-loop bytes₀ at x at' n rest₀ i₀ bytes rest i =
@@ -19,55 +15,44 @@ Inv-loop bytes₀ at x at' n rest₀ i₀ bytes rest i =
 abbrev μ-loop : tie.MeasureT-loop
 μ-loop bytes₀ at x at' n rest₀ i₀ bytes rest i = n - i
 
--- src/lib.rt:59:9
 width-requires : tie.Need-width-requires Inv-loop μ-loop
 width-requires c κs = tt
 
--- src/lib.rt:62:5
 loop-holds : tie.Need-loop-holds Inv-loop μ-loop
 loop-holds c = (omega arith, store-start (c .width .result) (c .before .before .args .at) (c .before .before .args .x) (c .before .before .args .bytes .now), refl)
 
--- src/lib.rt:63:31
 add-set-byte : tie.Need-add-set-byte Inv-loop μ-loop
 add-set-byte c = omega (arith, width-le (c .before .before .before .before .before .args .size), c .before .before .before .width .ensures)
 
--- src/lib.rt:63:39
 cast-set-byte : tie.Need-cast-set-byte Inv-loop μ-loop
 cast-set-byte c = search needs
 
--- src/lib.rt:63:9
 set-byte-requires : tie.Need-set-byte-requires Inv-loop μ-loop
 set-byte-requires c κs = tt
 
--- src/lib.rt:65:9
 add-i : tie.Need-add-i Inv-loop μ-loop
 add-i c = omega (arith, width-le (c .before .before .before .before .before .before .before .before .args .size), c .before .before .before .before .before .before .width .ensures)
 
--- src/lib.rt:62:5
 loop-less : tie.Need-loop-less Inv-loop μ-loop
 loop-less c = omega arith
 
--- src/lib.rt:62:5
 loop-again : tie.Need-loop-again Inv-loop μ-loop
-loop-again c = 
+loop-again c =
     let s = c .before .before .before .before .before .before .before .before in
     let w = c .before .before .before .before .before .before .width .result in
     let i = c .before .before .before .before .before .loop .i in
     let rest = c .before .before .before .before .before .loop .rest in
-    let inv = c .before .before .before .before .before .loop .inv in
-    (
+    let inv = c .before .before .before .before .before .loop .inv in (
       omega arith,
       rw (c .before .before .set-byte .ensures) (store-step w i (s .args .at) rest _ (omega arith) ∙ inv .1),
       ap length (c .before .before .set-byte .ensures) ∙ simp length-set (inv .2),
     )
 
--- src/lib.rt:55:1
 same-length : tie.Need-same-length Inv-loop μ-loop
 same-length c = c .before .loop .inv .2
 
--- src/lib.rt:55:1
 returns : tie.Need-returns Inv-loop μ-loop
-returns c = 
+returns c =
     let s = c .before .before .before .before in
     sym (store-end (c .before .before .width .result) (c .before .loop .i) (s .args .at + c .before .loop .i) (c .before .loop .rest) (c .before .loop .bytes) (omega arith))
     ∙ c .before .loop .inv .1
