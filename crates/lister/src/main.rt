@@ -1,7 +1,6 @@
 // Lists a page that is read as raw bytes from standard input.
 use libc::STDIN_FILENO;
 use libc::STDOUT_FILENO;
-use report::Written;
 
 fn main() {
     // One byte more than a page may have, so that a longer input is refused.
@@ -9,9 +8,8 @@ fn main() {
     let n = io::read_full(STDIN_FILENO, &mut input);
     let mut room = [0u8; 4096];
     let written = listing::list(&input[..n], &mut room);
-    if let Written::Bytes(length) = written {
-        if length <= room.len() {
-            io::write_all(STDOUT_FILENO, &room[..length]);
-        }
+    let length = report::bytes_written(written);
+    if length <= room.len() {
+        io::write_all(STDOUT_FILENO, &room[..length]);
     }
 }

@@ -14,3 +14,7 @@ writtenOf text n = cond (leb (length text) n) (Bytes (length text)) NoRoom
 -- the room afterwards: the text and the rest of the room, or the room as it was
 unfoldable pub placed : List ℕ → List ℕ → List ℕ
 placed text room = cond (leb (length text) (length room)) (text ++ drop (length text) room) room
+
+abbrev pub bytesWritten : Written → ℕ
+bytesWritten (Bytes n) = n
+bytesWritten NoRoom = 0

@@ -7,7 +7,7 @@ ghost use Prim.Native.Nat.{_+_, _≤_, _<_};
 ghost use lib.ListN.{length};
 ghost use Rattle.report.specs.Digits.{digit, hex, decimal};
 ghost use Rattle.report.specs.Line.{textOf, Appended};
-ghost use Rattle.report.specs.Room.{writtenOf, placed};
+ghost use Rattle.report.specs.Room.{writtenOf, placed, bytesWritten};
 ghost use Rattle.report.specs.ListerLines.{headText, bundleText, insideText, reachText, refusedText};
 
 // How many bytes were written at the start of the room, or that it was too small.
@@ -91,22 +91,41 @@ fn put_decimal(l: Line, x: u32) -> Line
     push(put_decimal(l, x / 10), digit(x % 10))
 }
 
-// The line goes to the start of the room, or nothing does.
+// A text goes to the start of the room, or nothing does.
+pub fn place(text: &[u8], room: &mut [u8]) -> Written
+    ensures { λ r. ⌜ (r ≡ writtenOf (now (text .entry)) (length (now (room .entry))))
+        × (now (room .exit) ≡ placed (now (text .entry)) (now (room .entry))) ⌝ }
+{
+    if room.len() < text.len() {
+        return Written::NoRoom;
+    }
+    let mut i = 0;
+    while i < text.len() {
+        room[i] = text[i];
+        i += 1;
+    }
+    Written::Bytes(text.len())
+}
+
+// How many bytes were written.
+pub fn bytes_written(w: Written) -> usize
+    ensures { λ n. ⌜ n ≡ bytesWritten w ⌝ }
+{
+    match w {
+        Written::Bytes(n) => n,
+        Written::NoRoom => 0,
+    }
+}
+
+// A line goes to the start of the room, or nothing does.
 fn emit(l: Line, room: &mut [u8]) -> Written
     requires { ⌜ l .len ≤ 96 ⌝ }
     ensures { λ r. ⌜ (r ≡ writtenOf (textOf l) (length (now (room .entry))))
         × (now (room .exit) ≡ placed (textOf l) (now (room .entry))) ⌝ }
 {
     let n = l.len;
-    if room.len() < n {
-        return Written::NoRoom;
-    }
-    let mut i = 0;
-    while i < n {
-        room[i] = l.bytes[i];
-        i += 1;
-    }
-    Written::Bytes(n)
+    let bytes = l.bytes;
+    place(&bytes[..n], room)
 }
 
 // The lister's lines.

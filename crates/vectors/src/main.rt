@@ -1,31 +1,43 @@
-// Runs the pages of the build paper that are not starred, and the refusals, and prints what came out.
+// Runs the pages and edges of the build paper that are not starred, and the refusals, and prints what came out.
+use endian::Size;
 use libc::STDOUT_FILENO;
+use memory::Fault;
+use memory::Loaded;
+use memory::Stored;
 use refusal::Verdict;
 use report::Written;
+use state::Base;
 
-fn print(room: &[u8], written: Written) {
-    if let Written::Bytes(length) = written {
-        if length <= room.len() {
-            io::write_all(STDOUT_FILENO, &room[..length]);
-        }
+fn show(text: &[u8]) {
+    io::write_all(STDOUT_FILENO, text);
+}
+
+fn show_number(x: u64) {
+    show(b" ");
+    io::print_decimal(STDOUT_FILENO, x);
+}
+
+fn show_line(room: &[u8], written: Written) {
+    let length = report::bytes_written(written);
+    if length <= room.len() {
+        show(&room[..length]);
     }
 }
+
+fn show_verdict(verdict: Verdict) {
+    let mut room = [0u8; 64];
+    if let Verdict::Refused(refusal) = verdict {
+        let written = report::refused_line(&mut room, refusal);
+        show_line(&room, written);
+    }
+}
+
+// ---- pages
 
 fn list(page: &[u8]) {
     let mut room = [0u8; 4096];
     let written = listing::list(page, &mut room);
-    print(&room, written);
-}
-
-// How the reader refuses a bundle.
-fn read(page: &[u8], k: u32) {
-    let mut room = [0u8; 64];
-    let answer = bundle::read_bundle(page, k);
-    let verdict = answer.verdict;
-    if let Verdict::Refused(refusal) = verdict {
-        let written = report::refused_line(&mut room, refusal);
-        print(&room, written);
-    }
+    show_line(&room, written);
 }
 
 fn pages() {
@@ -43,7 +55,13 @@ fn pages() {
     list(b"\x00\xBF\x01\xD0");
 }
 
-fn refusals() {
+fn read(page: &[u8], k: u32) {
+    let answer = bundle::read_bundle(page, k);
+    let verdict = answer.verdict;
+    show_verdict(verdict);
+}
+
+fn page_refusals() {
     // a length that is no multiple of 4, and one past 256
     list(b"\x00\xBF\x00");
     list(&[0u8; 260]);
@@ -52,7 +70,144 @@ fn refusals() {
     read(b"\x00\xBF\x00\xDF", 1);
 }
 
+// ---- base validation
+
+fn validate(v: u32, external: &[u8]) {
+    let answer = state::validate(v, external);
+    let base = answer.base;
+    let verdict = answer.verdict;
+    io::print_hex(STDOUT_FILENO, v as u64, 8);
+    match base {
+        Base::Nothing => {
+            show(b" none\n");
+        }
+        Base::Ram(offset) => {
+            show(b" ram ");
+            io::print_hex(STDOUT_FILENO, offset as u64, 5);
+            show(b"\n");
+        }
+        Base::External(offset) => {
+            show(b" external ");
+            io::print_hex(STDOUT_FILENO, offset as u64, 6);
+            show(b"\n");
+        }
+    }
+    show_verdict(verdict);
+}
+
+fn bases() {
+    let external = [0u8; 512];
+    validate(0, &external);
+    validate(0xFFFF, &external);
+    validate(0x10000, &external);
+    validate(0x17FFF, &external);
+    validate(0x18000, &external);
+    validate(0xFFFFF, &external);
+    validate(0x110000, &external);
+    validate(0x7FFF_FFFF, &external);
+    validate(0x8000_0000, &external);
+    validate(0x8000_01FF, &external);
+    validate(0x8000_0200, &external);
+    validate(0x8000_0201, &external);
+    validate(0xFFFF_FFFF, &external);
+    validate(0x8000_0000, b"");
+    validate(0x10000, b"\x00");
+}
+
+// ---- edges of memory
+
+fn show_fault(fault: Fault) {
+    show(b" fault");
+    show_number(memory::fault_number(fault) as u64);
+    show(b"\n");
+}
+
+// A word, a halfword or a byte is stored at a RAM offset.
+fn store(ram: &mut [u8], size: Size, offset: u32) {
+    show(b"store");
+    show_number(endian::width(size) as u64);
+    show_number(offset as u64);
+    let stored = memory::store_by(Base::Ram(offset), ram, 0, size, 0x1234_5678);
+    match stored {
+        Stored::Done => {
+            show(b" done\n");
+        }
+        Stored::Fails(fault) => {
+            show_fault(fault);
+        }
+    }
+}
+
+fn show_loaded(loaded: Loaded) {
+    match loaded {
+        Loaded::Value(x) => {
+            show(b" value");
+            show_number(x as u64);
+            show(b"\n");
+        }
+        Loaded::Fails(fault) => {
+            show_fault(fault);
+        }
+    }
+}
+
+// The same, loaded from RAM with an offset of imm12.
+fn load(ram: &[u8], size: Size, offset: u32, imm12: u16) {
+    show(b"load");
+    show_number(endian::width(size) as u64);
+    show_number(offset as u64 + imm12 as u64);
+    show_loaded(memory::load_by(Base::Ram(offset), true, ram, b"", imm12, size));
+}
+
+// From external data, by r8.
+fn load_external(external: &[u8], size: Size, offset: u32, imm12: u16) {
+    show(b"external");
+    show_number(endian::width(size) as u64);
+    show_number(offset as u64);
+    show_number(imm12 as u64);
+    show_loaded(memory::load_by(Base::External(offset), false, b"", external, imm12, size));
+}
+
+fn ram_edges() {
+    let mut ram = [0u8; 32768];
+    store(&mut ram, Size::Word, 32764);
+    store(&mut ram, Size::Word, 32765);
+    store(&mut ram, Size::Halfword, 32766);
+    store(&mut ram, Size::Halfword, 32767);
+    store(&mut ram, Size::Byte, 32767);
+    store(&mut ram, Size::Byte, 32768);
+    load(&ram, Size::Word, 32760, 4);
+    load(&ram, Size::Word, 32761, 4);
+    load(&ram, Size::Halfword, 32762, 4);
+    load(&ram, Size::Halfword, 32763, 4);
+    load(&ram, Size::Byte, 32763, 4);
+    load(&ram, Size::Byte, 32764, 4);
+}
+
+fn external_edges() {
+    let mut external = [0u8; 512];
+    external[255] = 0x80;
+    external[256] = 0x01;
+    load_external(&external, Size::Byte, 255, 0);
+    load_external(&external, Size::Byte, 255, 1);
+    load_external(&external, Size::Halfword, 254, 0);
+    load_external(&external, Size::Halfword, 255, 0);
+    load_external(&external, Size::Word, 252, 0);
+    load_external(&external, Size::Word, 253, 0);
+    load_external(&external, Size::Byte, 256, 0);
+    show(b"signed");
+    show_loaded(memory::signed(Size::Byte, Loaded::Value(0x80)));
+    // an external base where RAM is needed, and none
+    show(b"by r9");
+    show_loaded(memory::load_by(Base::External(0), true, b"", &external, 0, Size::Byte));
+    show(b"no base");
+    show_loaded(memory::load_by(Base::Nothing, false, b"", &external, 0, Size::Byte));
+}
+
 fn main() {
     pages();
-    refusals();
+    page_refusals();
+    bases();
+    ram_edges();
+    external_edges();
 }

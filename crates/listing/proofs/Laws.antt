@@ -1,0 +1,130 @@
+-- A listing that grows line by line. Assumes nothing.
+use mathlib.Core.Path.{_≡_, refl, sym, ap, _∙_}
+use mathlib.Core.Bool.{Bool, true, false, not, cond}
+use mathlib.Core.List.{List, _++_, append-assoc, append-nil}
+use Prim.Native.Nat.{ℕ, zero, suc, _+_, _-_, _≤_, _<_}
+use native.Mathlib.Nat.{add-zero}
+use native.Mathlib.Numerals.{add-one}
+use native.Mathlib.Omega.{arith}
+use lib.Dec.{ltb}
+use lib.ListN.{length, take, drop, length-append, length-drop}
+use lib.Seq.{take-at, length-take-le}
+use borrow.Author.Tests.{le-leb, lt-leb}
+use Rattle.refusal.specs.declared.Verdict.{Verdict}
+use Rattle.refusal.specs.declared.Verdict.the-variants.{Accepted, Refused}
+use Rattle.refusal.specs.declared.Refusal.{Refusal}
+use Rattle.refusal.specs.declared.Refusal.the-variants.{PageLength}
+use Rattle.page.specs.Page.{pageFits, bundlesIn, firstOf, secondOf}
+use Rattle.prefix.specs.Reach.{reachOf}
+use Rattle.bundle.specs.Successors.{successorsOf}
+use Rattle.bundle.specs.Reader.{readBundle}
+use Rattle.bundle.specs.declared.Read.{Read}
+use Rattle.count.specs.declared.Counted.{Counted}
+use Rattle.count.specs.Count.{countOf, countPage}
+use Rattle.report.specs.declared.Written.{Written}
+use Rattle.report.specs.declared.Written.the-variants.{Bytes, NoRoom}
+use Rattle.report.specs.ListerLines.{headText, bundleText, refusedText}
+use Rattle.report.specs.Room.{writtenOf, placed}
+use Rattle.listing.specs.Listing.{bundleLines, listingBy, listingOf}
+use Rattle.listing.specs.Text.{lineOf, Extended}
+
+-- ---- a line in room that is enough for it
+
+-- what is answered, and the room afterwards
+abbrev pub Put : List ℕ → List ℕ → Written → List ℕ → Type 0
+Put line room written after = (written ≡ writtenOf line (length room)) × (after ≡ placed line room)
+
+module _ (line room : List ℕ) (h : length line ≤ length room) where
+  fits : {written : Written} {after : List ℕ} → Put line room written after
+      → (written ≡ Bytes (length line)) × (after ≡ line ++ drop (length line) room)
+  unfolding writtenOf placed
+  fits p = rw (le-leb (length line) (length room) h) at p
+
+  pub bytes : {written : Written} {after : List ℕ} {n : ℕ} → Put line room written after → written ≡ Bytes n → n ≡ length line
+  bytes p e = let f = fits p .0 in cc
+
+  pub no-refusal : {written : Written} {after : List ℕ} → Put line room written after → written ≡ NoRoom → ⊥
+  no-refusal p e = let f = fits p .0 in let z : _≡_ {A = ℕ} 0 1 = cc in omega arith
+
+-- the first line
+pub begun : {written : Written} {after : List ℕ} {n : ℕ} (line text : List ℕ) → length line ≤ length text
+    → Put line text written after → written ≡ Bytes n → Extended text 0 line n after
+begun line text h p e =
+    let m = bytes line text h p e in
+    record {
+      text-is = rw (m, fits line text h p .1) (take-at line (drop (length line) text) (length line) refl);
+      end-is = omega arith;
+    }
+
+-- what lies behind the first bytes
+abbrev pub behind : ℕ → List ℕ → List ℕ
+behind at text = take (length text - at) (drop at text)
+
+pub behind-length : (at : ℕ) (text : List ℕ) → length (behind at text) ≡ length text - at
+behind-length at text = length-take-le (length text - at) (drop at text) (omega (arith, length-drop at text))
+
+-- a line put there
+pub extended : {written : Written} {part : List ℕ} {n : ℕ} (line text : List ℕ) (at : ℕ) (rest : List ℕ) → at + length line ≤ length text
+    → Put line (behind at text) written part → written ≡ Bytes n → Extended text at line (at + n) (take at text ++ (part ++ rest))
+extended line text at rest h p e =
+    let room = behind at text in
+    let k : length line ≤ length room = omega (arith, behind-length at text) in
+    let m = bytes line room k p e in
+    let l : length (take at text ++ line) ≡ at + length line = rw (length-append, length-take-le at text (omega arith)) in
+    record {
+      text-is = rw (m, fits line room k p .1, append-assoc line, ← append-assoc (take at text) line)
+          (take-at (take at text ++ line) (drop (length line) room ++ rest) (at + length line) l);
+      end-is = rw m;
+    }
+
+-- ---- the lines of the bundles passed
+
+pub none-passed : {text after : List ℕ} {end : ℕ} (page head : List ℕ) → Extended text 0 head end after → take end after ≡ head ++ bundleLines page 0 0
+unfolding bundleLines
+none-passed page head x = x .text-is ∙ sym (append-nil head)
+
+one-more : (page : List ℕ) (k n : ℕ) → bundleLines page k (suc n) ≡ bundleLines page k n ++ lineOf page (k + n)
+unfolding bundleLines
+one-more page k zero = rw (add-zero k) (append-nil (lineOf page k))
+one-more page k (suc n) =
+    let e : suc k + n ≡ k + suc n = omega arith in
+    ap (λ (lines : List ℕ). lineOf page k ++ lines) (one-more page (suc k) n ∙ ap (λ (j : ℕ). bundleLines page (suc k) n ++ lineOf page j) e)
+    ∙ sym (append-assoc (lineOf page k) (bundleLines page (suc k) n) (lineOf page (k + suc n)))
+
+-- a turn of the loop
+pub turn : {text after : List ℕ} {at end : ℕ} (page head : List ℕ) (k : ℕ) → take at text ≡ head ++ bundleLines page 0 k
+    → Extended text at (lineOf page k) end after → take end after ≡ head ++ bundleLines page 0 (k + 1)
+turn page head k e x =
+    let z : 0 + k ≡ k = omega arith in
+    x .text-is ∙ rw (e, add-one k, one-more page 0 k, z, append-assoc)
+
+-- ---- what the reader and the count answer
+
+read-accepted : (page : List ℕ) (k : ℕ) → pageFits page ≡ true → k < bundlesIn page → readBundle page k .reach ≡ reachOf (successorsOf page k)
+read-accepted page k f l = rw (f, lt-leb (bundlesIn page) k l)
+
+pub line-is : {first second count : ℕ} {read : Read} (page : List ℕ) (k : ℕ) → pageFits page ≡ true → count ≡ countOf page → k < bundlesIn page
+    → first ≡ firstOf page k → second ≡ secondOf page k → read ≡ readBundle page k
+    → bundleText k first second (ltb k count) (read .reach) ≡ lineOf page k
+line-is page k f c l p q r = rw (p, q, c, r, read-accepted page k f l)
+
+verdict-is : {counted : Counted} {verdict : Verdict} (page : List ℕ) → counted ≡ countPage page → counted .verdict ≡ verdict → countPage page .verdict ≡ verdict
+verdict-is page e v = sym (ap (λ (c : Counted). c .verdict) e) ∙ v
+
+fit : (t : Bool) → cond (not t) (Refused PageLength) Accepted ≡ Accepted → t ≡ true
+fit true e = refl
+fit false e = let z : _≡_ {A = ℕ} 0 1 = cc in absurd (omega arith)
+
+pub accepted : {counted : Counted} (page : List ℕ) → counted ≡ countPage page → counted .verdict ≡ Accepted
+    → (pageFits page ≡ true) × (counted .count ≡ countOf page)
+accepted page e v =
+    let f : pageFits page ≡ true = fit (pageFits page) (verdict-is page e v) in
+    (f, ap (λ (c : Counted). c .count) e ∙ rw f)
+
+pub listing-accepted : {counted : Counted} (page : List ℕ) → counted ≡ countPage page → counted .verdict ≡ Accepted
+    → headText (bundlesIn page) (counted .count) ++ bundleLines page 0 (bundlesIn page) ≡ listingOf page
+listing-accepted page e v = rw (accepted page e v .1) (sym (ap (listingBy page) (verdict-is page e v)))
+
+pub listing-refused : {counted : Counted} {refusal : Refusal} (page : List ℕ) → counted ≡ countPage page → counted .verdict ≡ Refused refusal
+    → refusedText refusal ≡ listingOf page
+listing-refused page e v = sym (ap (listingBy page) (verdict-is page e v))

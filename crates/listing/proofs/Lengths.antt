@@ -1,0 +1,30 @@
+-- No line of the listing is longer than 36 bytes. Assumes nothing.
+use mathlib.Core.Bool.{Bool, true, false}
+use Prim.Native.Nat.{ℕ, _≤_}
+use native.Mathlib.Omega.{arith}
+use lib.ListN.{length, length-append}
+use Rattle.prefix.specs.declared.Reach.{Reach}
+use Rattle.prefix.specs.declared.Reach.the-variants.{Bad, Nothing, Largest}
+use Rattle.report.specs.ListerLines.{headText, insideText, reachText, bundleText}
+use Rattle.report.proofs.Digits.{hex-length, decimal-length}
+
+inside-length : (inside : Bool) → length (insideText inside) ≤ 3
+unfolding insideText
+inside-length true = omega arith
+inside-length false = omega arith
+
+reach-length : (reach : Reach) → length (reachText reach) ≤ 10
+unfolding reachText
+reach-length Bad = omega arith
+reach-length Nothing = omega arith
+reach-length (Largest s) = decimal-length s
+
+pub head-length : (bundles count : ℕ) → length (headText bundles count) ≤ 36
+unfolding headText
+head-length bundles count = simp length-append (omega (arith, decimal-length bundles, decimal-length count))
+
+pub line-length : (k first second : ℕ) (inside : Bool) (reach : Reach) → length (bundleText k first second inside reach) ≤ 36
+unfolding bundleText
+line-length k first second inside reach =
+    simp length-append
+    (omega (arith, decimal-length k, hex-length 4 first, hex-length 4 second, inside-length inside, reach-length reach))

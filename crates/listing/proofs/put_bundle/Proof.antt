@@ -1,0 +1,116 @@
+use mathlib.Core.List.{List}
+use Prim.Native.Nat.{ℕ, _≤_}
+use native.Mathlib.Omega.{arith}
+use lib.ListN.{length}
+use borrow.Author.Needs.{needs}
+use Rattle.page.specs.Theorems.{fitting}
+use Rattle.listing.specs.Text.{lineOf}
+use Rattle.listing.proofs.Lengths.{line-length}
+use Rattle.listing.proofs.Laws.{Put, bytes, no-refusal, behind, behind-length, extended, line-is}
+use Rattle.listing.proofs.put_bundle.Statement.{statement}
+use Rattle.listing.proofs.put_bundle.Tie as tie
+
+abbrev start : tie.After-bundle-line → tie.Start
+start c = c .before .before .before .before .before .before .before
+
+abbrev line : tie.After-bundle-line → List ℕ
+line c = lineOf (start c .args .page .now) (start c .args .k)
+
+abbrev room : tie.After-bundle-line → List ℕ
+room c = behind (start c .args .at) (start c .args .text .now)
+
+-- the line is the bundle's
+put : (c : tie.After-bundle-line) → Put (line c) (room c) (c .bundle-line .result) (c .bundle-line .last .0)
+put c =
+    let args = start c .args in
+    let pre = start c .pre in
+    let first = c .before .before .before .before .halfword .ensures in
+    let second = c .before .before .before .halfword2 .ensures in
+    let read = c .before .before .read-bundle .ensures in
+    rw (line-is (args .page .now) (args .k) (pre .0 .0) (pre .0 .1) (pre .1 .0) first second read) at (c .bundle-line .ensures)
+
+-- it is short enough
+short : (c : tie.After-bundle-line) → length (line c) ≤ 36
+short c = line-length _ _ _ _ _
+
+enough : (c : tie.After-bundle-line) → length (line c) ≤ length (room c)
+enough c = omega (arith, short c, behind-length (start c .args .at) (start c .args .text .now))
+
+mul-halfword : tie.Need-mul-halfword
+mul-halfword c = omega (arith, fitting (c .before .before .args .page .now) (c .before .before .pre .0 .0))
+
+halfword-requires : tie.Need-halfword-requires
+halfword-requires c κs = search needs
+
+mul-halfword-2 : tie.Need-mul-halfword-2
+mul-halfword-2 c = omega (arith, fitting (c .before .before .before .args .page .now) (c .before .before .before .pre .0 .0))
+
+add-halfword : tie.Need-add-halfword
+add-halfword c = omega (arith, fitting (c .before .before .before .args .page .now) (c .before .before .before .pre .0 .0))
+
+halfword-requires-2 : tie.Need-halfword-requires-2
+halfword-requires-2 c κs = search needs
+
+read-bundle-requires : tie.Need-read-bundle-requires
+read-bundle-requires c κs = search needs
+
+sub-bundle-line : tie.Need-sub-bundle-line
+sub-bundle-line c = search needs
+
+part-bundle-line-start : tie.Need-part-bundle-line-start
+part-bundle-line-start c = search needs
+
+part-bundle-line-end : tie.Need-part-bundle-line-end
+part-bundle-line-end c = search needs
+
+bundle-line-requires : tie.Need-bundle-line-requires
+bundle-line-requires c κs = search needs
+
+enum-known-written : tie.Need-enum-known-written
+enum-known-written c = search needs
+
+add-result : tie.Need-add-result
+add-result c =
+    let called = c .before .before .before .before .before in
+    omega (arith, bytes (line called) (room called) (enough called) (put called) (c .before .written .given .1), short called)
+
+enum-told : tie.Need-enum-told
+enum-told c = search needs
+
+same-length : tie.Need-same-length
+same-length c = search needs
+
+returns : tie.Need-returns
+returns c =
+    let called = c .before .before .before .before .before in
+    extended (line called) (start called .args .text .now) (start called .args .at) _ (omega (arith, short called)) (put called) (c .before .written .given .1)
+
+same-length-2 : tie.Need-same-length-2
+same-length-2 c = search needs
+
+returns-2 : tie.Need-returns-2
+returns-2 c =
+    let called = c .before .before .before .before in
+    absurd (no-refusal (line called) (room called) (enough called) (put called) (c .enum-told .given .1))
+
+pub put-bundle-spec : {M : Type 1} → statement M
+put-bundle-spec =
+    tie.close
+    (tie.spec
+    mul-halfword
+    halfword-requires
+    mul-halfword-2
+    add-halfword
+    halfword-requires-2
+    read-bundle-requires
+    sub-bundle-line
+    part-bundle-line-start
+    part-bundle-line-end
+    bundle-line-requires
+    enum-known-written
+    add-result
+    enum-told
+    same-length
+    returns
+    same-length-2
+    returns-2)

@@ -1,0 +1,27 @@
+-- The lister's whole output for a page.
+use Prim.Native.Nat.{ℕ, zero, suc}
+use mathlib.Core.Bool.{cond}
+use mathlib.Core.List.{List, [], _++_}
+use lib.Dec.{ltb}
+use Rattle.refusal.specs.declared.Verdict.{Verdict}
+use Rattle.refusal.specs.declared.Verdict.the-variants.{Accepted, Refused}
+use Rattle.page.specs.Page.{bundlesIn, firstOf, secondOf}
+use Rattle.prefix.specs.Reach.{reachOf}
+use Rattle.bundle.specs.Successors.{successorsOf}
+use Rattle.count.specs.Count.{countOf, countPage}
+use Rattle.report.specs.ListerLines.{headText, bundleText, refusedText}
+
+-- the lines of n bundles from k on; a bundle below the count is ok, any other is out
+unfoldable pub bundleLines : List ℕ → ℕ → ℕ → List ℕ
+bundleLines page k zero = []
+bundleLines page k (suc n) =
+    bundleText k (firstOf page k) (secondOf page k) (ltb k (countOf page)) (reachOf (successorsOf page k))
+    ++ bundleLines page (suc k) n
+
+-- a page that is refused has one line
+abbrev pub listingBy : List ℕ → Verdict → List ℕ
+listingBy page Accepted = headText (bundlesIn page) (countOf page) ++ bundleLines page 0 (bundlesIn page)
+listingBy page (Refused refusal) = refusedText refusal
+
+abbrev pub listingOf : List ℕ → List ℕ
+listingOf page = listingBy page (countPage page .verdict)

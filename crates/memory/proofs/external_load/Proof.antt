@@ -1,0 +1,80 @@
+use native.Mathlib.Omega.{arith}
+use Rattle.endian.specs.Theorems.{width-le}
+use Rattle.memory.specs.Memory.{externalLoaded, externalPage}
+use Rattle.memory.proofs.Laws.{inside, past, clipped}
+use borrow.Author.Needs.{needs}
+use Rattle.memory.proofs.external_load.Statement.{statement}
+use Rattle.memory.proofs.external_load.Tie as tie
+
+mul-least : tie.Need-mul-least
+mul-least c = search needs
+
+cast-least : tie.Need-cast-least
+cast-least c = search needs
+
+least-requires : tie.Need-least-requires
+least-requires c κs = tt
+
+add-least : tie.Need-add-least
+add-least c = search needs
+
+least-requires-2 : tie.Need-least-requires-2
+least-requires-2 c κs = tt
+
+add-at : tie.Need-add-at
+add-at c = search needs
+
+cast-if1 : tie.Need-cast-if1
+cast-if1 c = search needs
+
+width-requires : tie.Need-width-requires
+width-requires c κs = tt
+
+sub-if1 : tie.Need-sub-if1
+sub-if1 c = omega (arith, width-le (c .before .before .before .before .args .size), c .width .ensures)
+
+sub-load : tie.Need-sub-load
+sub-load c = search needs
+
+part-load-start : tie.Need-part-load-start
+part-load-start c = search needs
+
+part-load-end : tie.Need-part-load-end
+part-load-end c = search needs
+
+load-requires : tie.Need-load-requires
+load-requires c κs = tt
+
+returns : tie.Need-returns
+unfolding externalLoaded externalPage
+returns c =
+    let l = c .before .before .before .before in
+    rw (
+      inside 256 _ _ _ (omega arith) (c .before .before .before .width .ensures) (c .before .before .if1 .taken),
+      ← clipped 256 _ _ _ _ (l .before .least .ensures) (l .least2 .ensures),
+      c .load .ensures,
+    )
+
+returns-2 : tie.Need-returns-2
+unfolding externalLoaded
+returns-2 c = rw (past 256 _ _ _ (c .before .width .ensures) (c .if1 .left))
+
+pub external-load-spec : {M : Type 1} → statement M
+external-load-spec =
+    tie.close
+    (tie.spec
+    mul-least
+    cast-least
+    least-requires
+    add-least
+    least-requires-2
+    add-at
+    cast-if1
+    width-requires
+    sub-if1
+    sub-load
+    part-load-start
+    part-load-end
+    load-requires
+    returns
+    returns-2)

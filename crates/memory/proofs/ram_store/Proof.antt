@@ -1,0 +1,36 @@
+use mathlib.Core.Path.{refl}
+use native.Mathlib.Omega.{arith}
+use Rattle.endian.specs.Theorems.{width-le}
+use Rattle.memory.specs.Memory.{ramStored, ramAfter}
+use Rattle.memory.proofs.Laws.{inside, past}
+use borrow.Author.Needs.{needs}
+use Rattle.memory.proofs.ram_store.Statement.{statement}
+use Rattle.memory.proofs.ram_store.Tie as tie
+
+width-requires : tie.Need-width-requires
+width-requires c κs = tt
+
+sub-last : tie.Need-sub-last
+sub-last c = omega (arith, width-le (c .before .before .args .size), c .width .ensures)
+
+cast-store : tie.Need-cast-store
+cast-store c = search needs
+
+store-requires : tie.Need-store-requires
+store-requires c κs = tt
+
+same-length : tie.Need-same-length
+same-length c = search needs
+
+returns : tie.Need-returns
+unfolding ramStored ramAfter
+returns c = rw (inside 32768 _ _ _ (omega arith) (c .before .before .before .before .before .width .ensures) (c .before .before .before .before .if1 .taken)) (refl, c .before .before .store .ensures)
+
+returns-2 : tie.Need-returns-2
+unfolding ramStored ramAfter
+returns-2 c = rw (past 32768 _ _ _ (c .before .width .ensures) (c .if1 .left)) (refl, refl)
+
+pub ram-store-spec : {M : Type 1} → statement M
+ram-store-spec =
+    tie.close
+    (tie.spec width-requires sub-last cast-store store-requires same-length returns returns-2)

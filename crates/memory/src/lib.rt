@@ -1,0 +1,147 @@
+// Loads and stores: RAM, the external page, and by a base.
+ghost use mathlib.Core.Path.{_≡_};
+ghost use Prim.Native.Nat.{min, _*_, _%_, _^_};
+ghost use Rattle.arm.specs.Bitwise.{signExtended};
+ghost use Rattle.endian.specs.LittleEndian.{widthOf};
+ghost use Rattle.memory.specs.Faults.{faultNumber};
+ghost use Rattle.memory.specs.Memory.{ramLoaded, ramStored, ramAfter, externalLoaded, loadedBy, storedBy, afterStoreBy, signedLoaded};
+use endian::Size;
+use state::Base;
+
+// In the order of the build paper's numbers, 1 to 6.
+pub enum Fault {
+    NoBase,
+    PastRam,
+    OffExternalPage,
+    PastStack,
+    LowStack,
+    PastPage,
+}
+
+pub enum Loaded {
+    Value(u32),
+    Fails(Fault),
+}
+
+pub enum Stored {
+    Done,
+    Fails(Fault),
+}
+
+// The build paper's number of a fault.
+pub fn fault_number(f: Fault) -> u8
+    ensures { λ n. ⌜ n ≡ faultNumber f ⌝ }
+{
+    match f {
+        Fault::NoBase => 1,
+        Fault::PastRam => 2,
+        Fault::OffExternalPage => 3,
+        Fault::PastStack => 4,
+        Fault::LowStack => 5,
+        Fault::PastPage => 6,
+    }
+}
+
+// The only way to read RAM.
+pub fn ram_load(ram: &[u8], at: usize, size: Size, fault: Fault) -> Loaded
+    ensures { λ r. ⌜ r ≡ ramLoaded (now (ram .entry)) at size fault ⌝ }
+{
+    if at <= 32768 - endian::width(size) {
+        Loaded::Value(endian::load(ram, at as u32, size))
+    } else {
+        Loaded::Fails(fault)
+    }
+}
+
+// The only way to write RAM.
+pub fn ram_store(ram: &mut [u8], at: usize, size: Size, x: u32, fault: Fault) -> Stored
+    ensures { λ r. ⌜ (r ≡ ramStored at size fault) × (now (ram .exit) ≡ ramAfter (now (ram .entry)) at size x) ⌝ }
+{
+    let last = 32768 - endian::width(size);
+    if at <= last {
+        endian::store(ram, at as u32, size, x);
+        Stored::Done
+    } else {
+        Stored::Fails(fault)
+    }
+}
+
+// The lesser of two.
+fn least(a: usize, b: usize) -> usize
+    ensures { λ r. ⌜ r ≡ min a b ⌝ }
+{
+    if a < b { a } else { b }
+}
+
+// A load from the external page that holds the offset: only that page is handed on to be read.
+pub fn external_load(external: &[u8], offset: u32, imm12: u16, size: Size) -> Loaded
+    ensures { λ r. ⌜ r ≡ externalLoaded (now (external .entry)) offset imm12 size ⌝ }
+{
+    let from = least((offset / 256 * 256) as usize, external.len());
+    let end = least(from + 256, external.len());
+    let at = offset % 256 + imm12 as u32;
+    if (at as usize) <= 256 - endian::width(size) {
+        Loaded::Value(endian::load(&external[from..end], at, size))
+    } else {
+        Loaded::Fails(Fault::OffExternalPage)
+    }
+}
+
+// A load by a base.
+pub fn load_by(
+    base: Base,
+    needs_ram: bool,
+    ram: &[u8],
+    external: &[u8],
+    imm12: u16,
+    size: Size,
+) -> Loaded
+    ensures { λ r. ⌜ r ≡ loadedBy base «needs_ram» (now (ram .entry)) (now (external .entry)) imm12 size ⌝ }
+{
+    match base {
+        Base::Nothing => Loaded::Fails(Fault::NoBase),
+        Base::Ram(offset) => ram_load(ram, offset as usize + imm12 as usize, size, Fault::PastRam),
+        Base::External(offset) => {
+            if needs_ram {
+                Loaded::Fails(Fault::NoBase)
+            } else {
+                external_load(external, offset, imm12, size)
+            }
+        }
+    }
+}
+
+// A store by a base.
+pub fn store_by(base: Base, ram: &mut [u8], imm12: u16, size: Size, x: u32) -> Stored
+    ensures { λ r. ⌜ (r ≡ storedBy base imm12 size) × (now (ram .exit) ≡ afterStoreBy base (now (ram .entry)) imm12 size x) ⌝ }
+{
+    match base {
+        Base::Nothing => Stored::Fails(Fault::NoBase),
+        Base::Ram(offset) => ram_store(
+            ram,
+            offset as usize + imm12 as usize,
+            size,
+            x,
+            Fault::PastRam,
+        ),
+        Base::External(_) => Stored::Fails(Fault::NoBase),
+    }
+}
+
+// The low bytes of x, with their sign extended to 32 bits.
+fn extended(x: u32, size: Size) -> u32
+    ensures { λ r. ⌜ r ≡ signExtended (8 * widthOf size) (x % 2 ^ (8 * widthOf size)) ⌝ }
+{
+    let n = 8 * (endian::width(size) as u32);
+    bits::low_word(bits::sign_extended(x, n))
+}
+
+// What was loaded, as a signed number in 32 bits.
+pub fn signed(size: Size, loaded: Loaded) -> Loaded
+    ensures { λ r. ⌜ r ≡ signedLoaded size loaded ⌝ }
+{
+    match loaded {
+        Loaded::Value(x) => Loaded::Value(extended(x, size)),
+        Loaded::Fails(fault) => Loaded::Fails(fault),
+    }
+}
