@@ -1,7 +1,7 @@
 // The record of the machine, by value, and base validation.
 ghost use mathlib.Core.Path.{_≡_};
 ghost use lib.ListN.{length, getD, set};
-ghost use Rattle.state.specs.Record.{register, withRegister, withSp, withFlags, withPlace, withBase, freshRecord, baseFits, fitRecord};
+ghost use Rattle.state.specs.Record.{register, withRegister, withSp, withFlags, withPlace, withBase, freshRecord, spFits, baseFits, fitRecord};
 ghost use Rattle.state.specs.Validation.{externalFits, validated, validateBase};
 use arm::Flags;
 use refusal::Refusal;
@@ -137,19 +137,25 @@ fn base_fits(b: Base, external: usize) -> bool
     }
 }
 
-// The record is fit, with external data of so many bytes.
-pub fn is_fit(r: Record, external: usize) -> bool
-    ensures { λ t. ⌜ t ≡ fitRecord r external ⌝ }
+// SP lies in RAM or at its end, and is a multiple of 4.
+pub fn sp_fits(sp: u32) -> bool
+    ensures { λ t. ⌜ t ≡ spFits sp ⌝ }
 {
-    let sp = r.sp;
-    let b = r.base;
     if sp < 0x10000 {
         return false;
     }
     if sp > 0x18000 {
         return false;
     }
-    if sp % 4 != 0 {
+    sp % 4 == 0
+}
+
+// The record is fit, with external data of so many bytes.
+pub fn is_fit(r: Record, external: usize) -> bool
+    ensures { λ t. ⌜ t ≡ fitRecord r external ⌝ }
+{
+    let b = r.base;
+    if !sp_fits(r.sp) {
         return false;
     }
     base_fits(b, external)

@@ -1,0 +1,58 @@
+use mathlib.Core.Path.{_≡_, sym, ap, _∙_}
+use mathlib.Core.Bool.{true, false}
+use lib.ListN.{length}
+use borrow.Author.Tests.{not-true, not-false}
+use borrow.Author.Needs.{needs}
+use Rattle.refusal.specs.declared.Refusal.the-variants.{FormLength, FormRange}
+use Rattle.refusal.specs.declared.Verdict.the-variants.{Accepted, Refused}
+use Rattle.form.specs.StoredForm.{storedForm, decode, valuesInRange, recordOf}
+use Rattle.form.specs.Verdicts.{other-length, out-of-range, accepted, loaded}
+use Rattle.form.proofs.load.Statement.{statement}
+use Rattle.form.proofs.load.Tie as tie
+
+fresh-record-requires : tie.Need-fresh-record-requires
+fresh-record-requires c κs = search needs
+
+returns : tie.Need-returns
+returns c =
+    let bytes = c .before .before .before .args .bytes .now in
+    loaded bytes (Refused FormLength) (c .fresh-record .result) (other-length (length bytes) (valuesInRange (decode storedForm bytes)) (c .before .if1 .taken)) (c .fresh-record .ensures)
+
+read-requires : tie.Need-read-requires
+read-requires c κs = search needs
+
+in-range-requires : tie.Need-in-range-requires
+in-range-requires c κs = search needs
+
+fresh-record-requires-2 : tie.Need-fresh-record-requires-2
+fresh-record-requires-2 c κs = search needs
+
+returns-2 : tie.Need-returns-2
+returns-2 c =
+    let bytes = c .before .before .before .before .before .before .args .bytes .now in
+    let t : valuesInRange (decode storedForm bytes) ≡ false =
+    sym (ap valuesInRange (c .before .before .before .read .ensures)) ∙ sym (c .before .before .in-range .ensures) ∙ not-true _ (c .before .if2 .taken) in
+    loaded bytes (Refused FormRange) (c .fresh-record2 .result) (out-of-range (length bytes) (valuesInRange (decode storedForm bytes)) (c .before .before .before .before .if1 .left) t) (c .fresh-record2 .ensures)
+
+record-of-requires : tie.Need-record-of-requires
+record-of-requires c κs = sym (c .before .in-range .ensures) ∙ not-false _ (c .if2 .left)
+
+returns-3 : tie.Need-returns-3
+returns-3 c =
+    let bytes = c .before .before .before .before .before .before .args .bytes .now in
+    let same = c .before .before .before .read .ensures in
+    let t : valuesInRange (decode storedForm bytes) ≡ true = sym (ap valuesInRange same) ∙ sym (c .before .before .in-range .ensures) ∙ not-false _ (c .before .if2 .left) in
+    loaded bytes Accepted (c .record-of .result) (accepted (length bytes) (valuesInRange (decode storedForm bytes)) (c .before .before .before .before .if1 .left) t) (c .record-of .ensures ∙ ap recordOf same)
+
+pub load-spec : {M : Type 1} → statement M
+load-spec =
+    tie.close
+    (tie.spec
+    fresh-record-requires
+    returns
+    read-requires
+    in-range-requires
+    fresh-record-requires-2
+    returns-2
+    record-of-requires
+    returns-3)

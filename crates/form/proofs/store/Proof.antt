@@ -1,0 +1,57 @@
+use mathlib.Core.Path.{_≡_, sym, ap, _∙_}
+use mathlib.Core.Bool.{true, false}
+use lib.ListN.{length}
+use borrow.Author.Tests.{not-true, not-false}
+use borrow.Author.Needs.{needs}
+use Rattle.refusal.specs.declared.Refusal.the-variants.{FormLength, FormRange}
+use Rattle.refusal.specs.declared.Verdict.the-variants.{Accepted, Refused}
+use Rattle.form.specs.StoredForm.{storedForm, encode, valuesInRange, valuesOf}
+use Rattle.form.specs.Verdicts.{other-length, out-of-range, accepted, room-after}
+use Rattle.form.proofs.store.Statement.{statement}
+use Rattle.form.proofs.store.Tie as tie
+
+returns : tie.Need-returns
+returns c =
+    let s = c .before .before .args in
+    let e = other-length (length (s .room .now)) (valuesInRange (valuesOf (s .r))) (c .if1 .taken) in
+    (e, room-after (s .r) (s .room .now) (Refused FormLength) e)
+
+values-of-requires : tie.Need-values-of-requires
+values-of-requires c κs = search needs
+
+in-range-requires : tie.Need-in-range-requires
+in-range-requires c κs = search needs
+
+returns-2 : tie.Need-returns-2
+returns-2 c =
+    let s = c .before .before .before .before .before .args in
+    let t : valuesInRange (valuesOf (s .r)) ≡ false =
+    sym (ap valuesInRange (c .before .before .values-of .ensures)) ∙ sym (c .before .in-range .ensures) ∙ not-true _ (c .if2 .taken) in
+    let e = out-of-range (length (s .room .now)) (valuesInRange (valuesOf (s .r))) (c .before .before .before .if1 .left) t in
+    (e, room-after (s .r) (s .room .now) (Refused FormRange) e)
+
+write-requires : tie.Need-write-requires
+write-requires c κs = search needs
+
+same-length : tie.Need-same-length
+same-length c = search needs
+
+returns-3 : tie.Need-returns-3
+returns-3 c =
+    let s = c .before .before .before .before .before .before .before .before .before .args in
+    let same = c .before .before .before .before .before .before .values-of .ensures in
+    let t : valuesInRange (valuesOf (s .r)) ≡ true = sym (ap valuesInRange same) ∙ sym (c .before .before .before .before .before .in-range .ensures) ∙ not-false _ (c .before .before .before .before .if2 .left) in
+    let e = accepted (length (s .room .now)) (valuesInRange (valuesOf (s .r))) (c .before .before .before .before .before .before .before .if1 .left) t in
+    (e, c .before .before .write .ensures ∙ ap (encode storedForm) same ∙ room-after (s .r) (s .room .now) Accepted e)
+
+pub store-spec : {M : Type 1} → statement M
+store-spec =
+    tie.close
+    (tie.spec
+    returns
+    values-of-requires
+    in-range-requires
+    returns-2
+    write-requires
+    same-length
+    returns-3)
