@@ -1,18 +1,17 @@
 -- Integers that the code keeps in 64 bits. Assumes nothing.
-use mathlib.Core.Path.{_≡_, refl, sym, ap, _∙_}
-use mathlib.Core.Bool.{Bool, true, false, cond, true≢false}
+use mathlib.Core.Path.{_≡_, ap, _∙_}
+use mathlib.Core.Bool.{true, false, true≢false}
 use Prim.Native.Nat.{ℕ, zero, suc, _+_, _-_, _*_, _/_, _%_, _^_, _≤_, _<_}
-use native.Mathlib.Nat.{div-le-self, lt-of-lt-of-le, mod-eq-of-lt, div-eq-of-lt, zero-mod}
+use native.Mathlib.Nat.{lt-of-lt-of-le, mod-eq-of-lt, div-eq-of-lt}
 use native.Mathlib.Omega.{arith}
-use lib.Dec.{eqb, lit<}
-use lib.Pow.{pow-mono, pow-lt, shl-exact}
-use lib.IntN.{ℤ, pos, negsuc, negℤ, _+ℤ_, _-ℤ_, subℕ}
-use lib.Signed.{mag, ltZ, quotZ, remZ}
-use borrow.Author.Tests.{ltb-true, eq-eqb, ne-eqb}
+use lib.Dec.{lit<}
+use lib.Pow.{pow-mono, shl-exact}
+use lib.IntN.{ℤ, pos, negsuc, negℤ, _+ℤ_, _-ℤ_}
+use lib.Signed.{mag, ltZ, remZ}
+use borrow.Author.Tests.{ltb-true, ne-eqb}
 use mir.Syntax.{w64}
-use mir.Val.{toZ, ofZ, SFits}
-use mir.ValLaws.{toZ-pos, toZ-ofZ}
-use Rattle.bits.specs.Fields.{bit}
+use mir.Val.{toZ, SFits}
+use mir.ValLaws.{toZ-pos}
 use Rattle.bits.specs.Integers.{SInt, lowWord}
 use Rattle.laws.specs.Differences.{more, minus, mag-diff}
 

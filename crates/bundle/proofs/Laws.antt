@@ -1,8 +1,8 @@
 -- The largest successor, as the code comes by it. Assumes nothing.
-use mathlib.Core.Path.{_≡_, refl, sym, ap, _∙_}
-use mathlib.Core.Bool.{Bool, true, false}
-use mathlib.Core.List.{List, [], _∷_}
-use Prim.Native.Nat.{ℕ, _+_, _*_}
+use mathlib.Core.Path.{_≡_, sym, ap, _∙_}
+use mathlib.Core.Bool.{true, false}
+use mathlib.Core.List.{List}
+use Prim.Native.Nat.{ℕ, _+_}
 use Rattle.prefix.specs.Prefix.{goes}
 use Rattle.prefix.specs.Reach.{insert, reachOf, withSuccessor, reach-insert}
 use Rattle.prefix.specs.declared.Reach.{Reach}

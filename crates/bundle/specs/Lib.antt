@@ -1,3 +1,4 @@
 pub mod Flow
 pub mod Successors
 pub mod Reader
+pub mod Theorems

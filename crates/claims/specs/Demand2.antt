@@ -1,12 +1,12 @@
 -- Demand 2, the count: the greatest closed prefix of the page's bundles. Assumes nothing.
-use Prim.Native.Nat.{ℕ, _≤_, _<_}
+use Prim.Native.Nat.{ℕ, _≤_}
 use native.Mathlib.Omega.{arith}
-use mathlib.Core.Path.{_≡_, sym, _∙_}
+use mathlib.Core.Path.{_≡_}
 use mathlib.Core.Bool.{true}
 use mathlib.Core.List.{List}
 use Rattle.page.specs.Page.{pageFits, bundlesIn}
 use Rattle.page.specs.Theorems.{fitting}
-use Rattle.prefix.specs.Prefix.{Closed, Greatest, singlePass, iterated}
+use Rattle.prefix.specs.Prefix.{Greatest, singlePass, iterated}
 use Rattle.prefix.specs.Theorems.{unique, definition, single-pass-is, iterates-is}
 use Rattle.bundle.specs.Successors.{successorsOf}
 use Rattle.count.specs.Count.{countOf, countPage}

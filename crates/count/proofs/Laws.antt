@@ -1,19 +1,15 @@
 -- A turn of the single pass, by what the reader answers. Assumes nothing.
-use mathlib.Core.Path.{_≡_, refl, sym, ap, _∙_}
+use mathlib.Core.Path.{_≡_, sym, ap, _∙_}
 use mathlib.Core.Bool.{Bool, true, cond}
 use mathlib.Core.List.{List}
 use Prim.Native.Nat.{ℕ, _-_, _<_}
-use borrow.Author.Tests.{lt-leb}
 use Rattle.page.specs.Page.{pageFits, bundlesIn}
 use Rattle.prefix.specs.Prefix.{within}
-use Rattle.prefix.specs.Reach.{reachOf, reachWithin, reach-within}
-use Rattle.prefix.specs.declared.Reach.{Reach}
+use Rattle.prefix.specs.Reach.{reachWithin, reach-within}
 use Rattle.bundle.specs.Successors.{successorsOf}
 use Rattle.bundle.specs.Reader.{readBundle}
+use Rattle.bundle.specs.Theorems.{read-accepted}
 use Rattle.bundle.specs.declared.Read.{Read}
-
-read-accepted : (page : List ℕ) (k : ℕ) → pageFits page ≡ true → k < bundlesIn page → readBundle page k .reach ≡ reachOf (successorsOf page k)
-read-accepted page k f l = rw (f, lt-leb (bundlesIn page) k l)
 
 pub turn : (page : List ℕ) (k bound next : ℕ) (read : Read) → pageFits page ≡ true → k < bundlesIn page → read ≡ readBundle page k
     → next ≡ cond (reachWithin bound (read .reach)) bound k → next ≡ cond (within bound (successorsOf page k)) bound k

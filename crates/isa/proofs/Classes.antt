@@ -2,13 +2,13 @@
 use mathlib.Core.Path.{_≡_, refl, sym, ap, _∙_}
 use mathlib.Core.Bool.{Bool, true, false, not, _&&_, _||_, cond, true≢false, Bool·beq}
 use mathlib.Core.List.{List, [], _∷_}
-use mathlib.Core.Logic.{_⊎_, inl, inr, ⊎-elim}
-use Prim.Native.Nat.{ℕ, zero, suc, _+_, _*_, _/_, _%_, _^_, _<_, _≤_}
+use mathlib.Core.Logic.{_⊎_, ⊎-elim}
+use Prim.Native.Nat.{ℕ, _+_, _*_, _/_, _%_, _^_, _<_, _≤_}
 use native.Mathlib.Omega.{arith}
 use lib.Dec.{eqb, ltb}
 use lib.ListN.{length, take, drop, List·getD-eq-default}
 use borrow.Author.Tests.{eqb-true, ltb-true}
-use Rattle.isa.specs.Patterns.{Bit, matches}
+use Rattle.isa.specs.Patterns.{matches}
 use Rattle.isa.specs.ListedEncodings.{Row, row, decodeBy, lines16, listed16, decode16Of}
 use Rattle.isa.specs.Classes.{begins, classOf}
 use Rattle.laws.specs.Tests.{both, either, equal-tests}

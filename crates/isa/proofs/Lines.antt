@@ -1,19 +1,18 @@
 -- The line of a 16-bit row is told by the top byte. Assumes nothing.
 use mathlib.Core.Path.{_≡_, refl, sym, ap, _∙_}
-use mathlib.Core.Bool.{Bool, true, false, not, _&&_, _||_, cond, true≢false}
+use mathlib.Core.Bool.{Bool, true, false, _&&_, cond, true≢false}
 use mathlib.Core.List.{List, [], _∷_, _++_, append-nil}
-use mathlib.Core.Logic.{_⊎_, inl, inr, ⊎-elim}
-use Prim.Native.Nat.{ℕ, zero, suc, _/_, _^_, _<_, _≤_}
+use mathlib.Core.Logic.{_⊎_, ⊎-elim}
+use Prim.Native.Nat.{ℕ, suc, _/_, _^_, _<_}
 use native.Mathlib.Nat.{le-of-suc-le-suc, not-suc-le-zero}
 use lib.Dec.{eqb}
-use lib.ListN.{length, getD, take, drop, length-drop}
+use lib.ListN.{length, getD, take, drop}
 use borrow.Author.Tests.{eqb-true}
 use Rattle.isa.specs.Patterns.{Bit, matches}
 use Rattle.isa.specs.ListedEncodings.{Row, row, decodeBy, joinLines}
 use Rattle.isa.specs.Classes.{begins, lineOf}
 use Rattle.laws.specs.Tests.{both, either, second, fails}
 use Rattle.isa.specs.Theorems.{conflict, conflicting}
-use Rattle.isa.specs.declared.Instruction.{Instruction}
 use Rattle.isa.specs.declared.Instruction.the-variants.{Unlisted}
 use Rattle.isa.proofs.Patterns.{cut}
 

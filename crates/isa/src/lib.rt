@@ -2,7 +2,7 @@
 ghost use mathlib.Core.Path.{_≡_};
 ghost use Prim.Native.Nat.{_/_, _^_};
 ghost use Rattle.bits.specs.Fields.{bits};
-ghost use Rattle.isa.specs.ListedEncodings.{decodeBy, listed16, listed32, arithmetic32, decode16Of, decode32Of, opens32, imm6Of, imm16Of, wordOf};
+ghost use Rattle.isa.specs.ListedEncodings.{decodeBy, listed32, arithmetic32, decode16Of, decode32Of, opens32, imm16Of};
 ghost use Rattle.isa.specs.Classes.{classOf, operandsOf};
 
 // An instruction that goes on to the next one. Its operands are raw fields, in the order of their bits, highest first:

@@ -9,15 +9,14 @@ use native.Mathlib.Omega.{arith}
 use lib.Dec.{ltb}
 use lib.ListN.{length, take, drop, length-append, length-drop}
 use lib.Seq.{take-at, length-take-le}
-use borrow.Author.Tests.{le-leb, lt-leb}
+use borrow.Author.Tests.{le-leb}
 use Rattle.refusal.specs.declared.Verdict.{Verdict}
 use Rattle.refusal.specs.declared.Verdict.the-variants.{Accepted, Refused}
 use Rattle.refusal.specs.declared.Refusal.{Refusal}
 use Rattle.refusal.specs.declared.Refusal.the-variants.{PageLength}
 use Rattle.page.specs.Page.{pageFits, bundlesIn, firstOf, secondOf}
-use Rattle.prefix.specs.Reach.{reachOf}
-use Rattle.bundle.specs.Successors.{successorsOf}
 use Rattle.bundle.specs.Reader.{readBundle}
+use Rattle.bundle.specs.Theorems.{read-accepted}
 use Rattle.bundle.specs.declared.Read.{Read}
 use Rattle.count.specs.declared.Counted.{Counted}
 use Rattle.count.specs.Count.{countOf, countPage}
@@ -99,9 +98,6 @@ turn page head k e x =
     x .text-is ∙ rw (e, add-one k, one-more page 0 k, z, append-assoc)
 
 -- ---- what the reader and the count answer
-
-read-accepted : (page : List ℕ) (k : ℕ) → pageFits page ≡ true → k < bundlesIn page → readBundle page k .reach ≡ reachOf (successorsOf page k)
-read-accepted page k f l = rw (f, lt-leb (bundlesIn page) k l)
 
 pub line-is : {first second count : ℕ} {read : Read} (page : List ℕ) (k : ℕ) → pageFits page ≡ true → count ≡ countOf page → k < bundlesIn page
     → first ≡ firstOf page k → second ≡ secondOf page k → read ≡ readBundle page k

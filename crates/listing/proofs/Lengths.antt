@@ -1,23 +1,12 @@
 -- No line of the listing is longer than 36 bytes. Assumes nothing.
-use mathlib.Core.Bool.{Bool, true, false}
+use mathlib.Core.Bool.{Bool}
 use Prim.Native.Nat.{ℕ, _≤_}
 use native.Mathlib.Omega.{arith}
 use lib.ListN.{length, length-append}
 use Rattle.prefix.specs.declared.Reach.{Reach}
-use Rattle.prefix.specs.declared.Reach.the-variants.{Bad, Nothing, Largest}
-use Rattle.report.specs.ListerLines.{headText, insideText, reachText, bundleText}
+use Rattle.report.specs.ListerLines.{headText, bundleText}
 use Rattle.report.proofs.Digits.{hex-length, decimal-length}
-
-inside-length : (inside : Bool) → length (insideText inside) ≤ 3
-unfolding insideText
-inside-length true = omega arith
-inside-length false = omega arith
-
-reach-length : (reach : Reach) → length (reachText reach) ≤ 10
-unfolding reachText
-reach-length Bad = omega arith
-reach-length Nothing = omega arith
-reach-length (Largest s) = decimal-length s
+use Rattle.report.proofs.ListerLines.{inside-length, reach-length}
 
 pub head-length : (bundles count : ℕ) → length (headText bundles count) ≤ 36
 unfolding headText

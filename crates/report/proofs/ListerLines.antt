@@ -11,12 +11,12 @@ use Rattle.report.specs.ListerLines.{insideText, reachText}
 use Rattle.report.proofs.Digits.{decimal-length}
 use Rattle.report.proofs.Lines.{grows}
 
-inside-length : (inside : Bool) → length (insideText inside) ≤ 3
+pub inside-length : (inside : Bool) → length (insideText inside) ≤ 3
 unfolding insideText
 inside-length true = omega arith
 inside-length false = omega arith
 
-reach-length : (reach : Reach) → length (reachText reach) ≤ 10
+pub reach-length : (reach : Reach) → length (reachText reach) ≤ 10
 unfolding reachText
 reach-length Bad = omega arith
 reach-length Nothing = omega arith

@@ -1,7 +1,7 @@
 -- Base validation.
 use Prim.Native.Nat.{ℕ, _+_, _-_, _%_, _^_}
 use mathlib.Core.Bool.{Bool, not, _&&_, cond}
-use mathlib.Core.List.{List, [], _∷_}
+use mathlib.Core.List.{[], _∷_}
 use lib.Dec.{eqb, ltb, leb}
 use Rattle.refusal.specs.Refusals.{Rule, rule, verdict, whenAccepted}
 use Rattle.refusal.specs.declared.Refusal.the-variants.{ExternalLength}

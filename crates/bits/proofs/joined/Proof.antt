@@ -1,6 +1,6 @@
 use mathlib.Core.Path.{_≡_, _∙_, ap}
-use Prim.Native.Nat.{ℕ, _%_, _^_, _<_}
-use native.Mathlib.Nat.{div-one, mod-lt, le-of-lt}
+use Prim.Native.Nat.{ℕ, _%_, _^_}
+use native.Mathlib.Nat.{div-one, mod-lt}
 use native.Mathlib.Omega.{arith}
 use lib.Pow.{pow-pos}
 use Rattle.bits.proofs.Laws.{shift-or, join-past}

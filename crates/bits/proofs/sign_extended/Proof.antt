@@ -1,11 +1,10 @@
-use mathlib.Core.Path.{_≡_, _∙_, ap, sym}
-use Prim.Native.Nat.{ℕ, suc, _-_, _%_, _^_, _<_}
-use native.Mathlib.Nat.{div-one, mod-lt, zero-mod, mod-one}
+use mathlib.Core.Path.{_≡_, _∙_}
+use Prim.Native.Nat.{suc, _-_}
+use native.Mathlib.Nat.{div-one, mod-lt, mod-one}
 use native.Mathlib.Omega.{arith}
 use lib.Pow.{pow-pos}
 use mir.Syntax.{w64}
 use mir.ValLaws.{toZ-pos}
-use Rattle.bits.specs.Integers.{SInt}
 use Rattle.laws.specs.Integers.{read}
 use Rattle.bits.proofs.Integers.{no-sign}
 use borrow.Author.Needs.{needs}
