@@ -1,11 +1,12 @@
 -- The reader's answer: bad, none or the largest successor; and that it is enough for the count.
-use Prim.Native.Nat.{ℕ, _≤_, max}
+use Prim.Native.Nat.{ℕ, suc, _≤_, _<_, max}
 use native.Mathlib.Omega.{arith}
 use mathlib.Core.Path.{_≡_, refl, ap, _∙_}
 use mathlib.Core.Bool.{Bool, true, false, cond}
 use mathlib.Core.List.{List, [], _∷_}
 use lib.Dec.{ltb, eqb}
-use borrow.Author.Tests.{eqb-true}
+use lib.ListN.{length}
+use borrow.Author.Tests.{ltb-true, ltb-false, eqb-true, eqb-false}
 use Rattle.prefix.specs.Prefix.{Successors, bad, goes, within}
 use Rattle.prefix.specs.Theorems.{largest, largest-within}
 use Rattle.prefix.specs.declared.Reach.{Reach}
@@ -47,26 +48,51 @@ largest-le a [] = omega arith
 largest-le a (s ∷ ss) = omega (arith, largest-le (max a s) ss)
 
 -- by the test of s against t: before it, equal to it, or behind it
-by-order : (P : List ℕ → Type 0) (s t : ℕ) {a b c : List ℕ} → P a → (s ≡ t → P b) → P c → P (cond (ltb s t) a (cond (eqb s t) b c))
-by-order P s t {a} {b} {c} p q r = go (ltb s t) (eqb s t) refl
+by-order : (P : List ℕ → Type 0) (s t : ℕ) {a b c : List ℕ} → (s < t → P a) → (s ≡ t → P b) → (t < s → P c)
+    → P (cond (ltb s t) a (cond (eqb s t) b c))
+by-order P s t {a} {b} {c} p q r = go (ltb s t) (eqb s t) refl refl
   where
-    go : (l e : Bool) → eqb s t ≡ e → P (cond l a (cond e b c))
-    go true e i = p
-    go false true i = q (eqb-true s t i)
-    go false false i = r
+    go : (l e : Bool) → ltb s t ≡ l → eqb s t ≡ e → P (cond l a (cond e b c))
+    go true e h i = p (ltb-true s t h)
+    go false true h i = q (eqb-true s t i)
+    go false false h i = let d = eqb-false s t i in r (omega (arith, ltb-false s t h))
 
 insert-largest : (a s : ℕ) (ss : List ℕ) → largest a (insert s ss) ≡ max (largest a ss) s
 insert-largest a s [] = refl
 insert-largest a s (t ∷ ts) =
     by-order (λ l. largest a l ≡ max (largest (max a t) ts) s) s t
-    (ap (λ (n : ℕ). largest n ts) (omega arith) ∙ largest-max s (max a t) ts ∙ omega arith)
+    (λ l. ap (λ (n : ℕ). largest n ts) (omega arith) ∙ largest-max s (max a t) ts ∙ omega arith)
     (λ e. omega (arith, largest-le (max a t) ts))
-    (insert-largest (max a t) s ts)
+    (λ l. insert-largest (max a t) s ts)
 
 pub reach-insert : (s : ℕ) (ss : List ℕ) → reachOf (goes (insert s ss)) ≡ withSuccessor (reachOf (goes ss)) s
 reach-insert s [] = refl
 reach-insert s (t ∷ ts) =
     by-order (λ l. reachOf (goes l) ≡ Largest (max (largest t ts) s)) s t
-    (ap Largest (largest-max s t ts ∙ omega arith))
+    (λ l. ap Largest (largest-max s t ts ∙ omega arith))
     (λ e. ap Largest (omega (arith, largest-le t ts)))
-    (ap Largest (insert-largest t s ts))
+    (λ l. ap Largest (insert-largest t s ts))
+
+-- ---- lists made by inserting are ascending, without repeats
+
+abbrev pub Above : ℕ → List ℕ → Type 0
+Above s [] = Unit {0}
+Above s (t ∷ ts) = s < t
+
+abbrev pub Ascending : List ℕ → Type 0
+Ascending [] = Unit {0}
+Ascending (s ∷ ss) = Above s ss × Ascending ss
+
+insert-above : (a s : ℕ) (ss : List ℕ) → a < s → Above a ss → Above a (insert s ss)
+insert-above a s [] l h = l
+insert-above a s (t ∷ ts) l h = by-order (Above a) s t (λ b. l) (λ e. h) (λ b. h)
+
+pub insert-ascending : (s : ℕ) (ss : List ℕ) → Ascending ss → Ascending (insert s ss)
+insert-ascending s [] h = (tt, tt)
+insert-ascending s (t ∷ ts) h =
+    by-order Ascending s t (λ l. (l, h)) (λ e. h) (λ l. (insert-above t s ts l (h .0), insert-ascending s ts (h .1)))
+
+pub insert-length : (s : ℕ) (ss : List ℕ) → length (insert s ss) ≤ suc (length ss)
+insert-length s [] = omega arith
+insert-length s (t ∷ ts) =
+    by-order (λ l. length l ≤ suc (suc (length ts))) s t (λ l. omega arith) (λ e. omega arith) (λ l. omega (arith, insert-length s ts))
