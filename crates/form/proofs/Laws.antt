@@ -1,25 +1,15 @@
 -- One field more is written or read. Assumes nothing.
-use Prim.Native.Nat.{ℕ, zero, suc, _+_, _/_, _%_, _<_, _≤_}
+use Prim.Native.Nat.{ℕ, _+_, _<_, _≤_}
 use mathlib.Core.Path.{_≡_, sym, ap, _∙_}
-use mathlib.Core.List.{List, [], _∷_, _++_, append-assoc, append-nil}
-use native.Mathlib.Nat.{add-zero}
+use mathlib.Core.List.{List}
 use native.Mathlib.Numerals.{add-one}
 use native.Mathlib.Omega.{arith}
-use lib.ListN.{length, getD, take, set, length-set}
+use lib.ListN.{length, getD, take, set}
 use lib.Seq.{take-all, take-suc-set}
-use Rattle.endian.specs.LittleEndian.{loadLE, storeLE, bytesOf}
+use Rattle.endian.specs.LittleEndian.{loadLE, storeLE}
+use Rattle.endian.specs.Theorems.{store-take}
 use Rattle.form.specs.StoredForm.{Field, lengthOf, encode, decode}
 use Rattle.form.specs.Laws.{widthAt, decode-more, encode-more, length-more, length-at-most}
-
--- after a store, the bytes up to its end
-store-take : (width : ℕ) (bytes : List ℕ) (at x : ℕ) → at + width ≤ length bytes
-    → take (at + width) (storeLE width bytes at x) ≡ take at bytes ++ bytesOf width x
-store-take zero bytes at x l = rw (add-zero, append-nil)
-store-take (suc width) bytes at x l =
-    let b = x % 256 in
-    let e : at + suc width ≡ at + 1 + width = omega arith in
-    let f : take (at + 1) (set bytes at b) ≡ take at bytes ++ (b ∷ []) = rw add-one (take-suc-set bytes at b (omega arith)) in
-    rw (e, store-take width (set bytes at b) (at + 1) (x / 256) (omega (arith, length-set bytes at b)), f, append-assoc)
 
 module _ (fields : List Field) (i at width : ℕ) (n : i < length fields) (a : at ≡ lengthOf (take i fields)) (w : width ≡ widthAt fields i) where
   pub next : at + width ≡ lengthOf (take (i + 1) fields)

@@ -1,13 +1,14 @@
 -- Laws of fields, values and bytes, each over any list of fields. Assumes nothing.
-use Prim.Native.Nat.{ℕ, zero, suc, _+_, _*_, _/_, _%_, _^_, _<_, _≤_}
+use Prim.Native.Nat.{ℕ, zero, suc, _+_, _^_, _<_, _≤_}
 use mathlib.Core.Path.{_≡_, refl, ap, _∙_}
 use mathlib.Core.Bool.{Bool, true, false}
 use mathlib.Core.List.{List, [], _∷_, _++_, append-assoc, append-nil}
-use native.Mathlib.Nat.{pow-succ', le-of-suc-le-suc}
+use native.Mathlib.Nat.{le-of-suc-le-suc}
 use native.Mathlib.Omega.{arith}
 use lib.ListN.{length, getD, take, drop, length-append, length-drop, take-append-drop}
 use lib.Seq.{take-all, drop-cons, drop-at, getD-drop}
 use Rattle.endian.specs.LittleEndian.{loadLE, bytesOf}
+use Rattle.endian.specs.Theorems.{load-drop, length-bytes, load-bytes, bytes-load}
 use Rattle.form.specs.StoredForm.{Field, field, lengthOf, encode, decode, bitOf}
 
 -- the width of field i
@@ -33,36 +34,6 @@ elements-are (suc n) i xs h = rw (drop-cons xs i 0 (omega arith), elements-are n
 
 pub whole : (n : ℕ) (xs : List ℕ) → length xs ≡ n → elements n 0 xs ≡ xs
 whole n xs l = elements-are n 0 xs (omega arith) ∙ take-all n xs (omega arith)
-
--- ---- the number of some bytes, and the bytes of a number
-
-pub load-drop : (width at : ℕ) (bytes : List ℕ) (i : ℕ) → loadLE width (drop at bytes) i ≡ loadLE width bytes (at + i)
-load-drop zero at bytes i = refl
-load-drop (suc width) at bytes i =
-    let e : at + (i + 1) ≡ at + i + 1 = omega arith in
-    rw (getD-drop, load-drop width at bytes (i + 1), e)
-
-pub length-bytes : (width x : ℕ) → length (bytesOf width x) ≡ width
-length-bytes zero x = refl
-length-bytes (suc width) x = ap suc (length-bytes width (x / 256))
-
--- the number of a number's bytes
-load-bytes : (width x : ℕ) (rest : List ℕ) → x < 256 ^ width → loadLE width (bytesOf width x ++ rest) 0 ≡ x
-load-bytes zero x rest h = omega arith
-load-bytes (suc width) x rest h =
-    rw (← load-drop width 1 (x % 256 ∷ (bytesOf width (x / 256) ++ rest)) 0, load-bytes width (x / 256) rest (omega (arith, pow-succ' 256 width)))
-    (omega arith)
-
--- the bytes of some bytes' number
-bytes-load : (width : ℕ) (bytes : List ℕ) → width ≤ length bytes → ((k : ℕ) → getD bytes k 0 < 256) → bytesOf width (loadLE width bytes 0) ≡ take width bytes
-bytes-load zero bytes l h = refl
-bytes-load (suc width) [] l h = absurd (omega arith)
-bytes-load (suc width) (b ∷ bytes) l h =
-    let y = loadLE width (b ∷ bytes) 1 in
-    let e : (b + 256 * y) % 256 ≡ b = omega (arith, h 0) in
-    let f : (b + 256 * y) / 256 ≡ y = omega (arith, h 0) in
-    rw (e, f, ← load-drop width 1 (b ∷ bytes) 0)
-    (ap (λ (rest : List ℕ). b ∷ rest) (bytes-load width bytes (le-of-suc-le-suc l) (λ k. h (suc k))))
 
 -- ---- values are read back
 

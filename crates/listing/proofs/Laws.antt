@@ -24,8 +24,8 @@ use Rattle.report.specs.declared.Written.{Written}
 use Rattle.report.specs.declared.Written.the-variants.{Bytes, NoRoom}
 use Rattle.report.specs.ListerLines.{headText, bundleText, refusedText}
 use Rattle.report.specs.Room.{writtenOf, placed}
-use Rattle.listing.specs.Listing.{bundleLines, listingBy, listingOf}
-use Rattle.listing.specs.Text.{lineOf, Extended}
+use Rattle.listing.specs.Listing.{lineOf, bundleLines, listingBy, listingOf}
+use Rattle.listing.specs.Text.{Extended}
 
 -- ---- a line in room that is enough for it
 

@@ -10,12 +10,14 @@ use Rattle.bundle.specs.Successors.{successorsOf}
 use Rattle.count.specs.Count.{countOf, countPage}
 use Rattle.report.specs.ListerLines.{headText, bundleText, refusedText}
 
--- the lines of n bundles from k on; a bundle below the count is ok, any other is out
+-- the line of bundle k: below the count it is ok, else out
+abbrev pub lineOf : List ℕ → ℕ → List ℕ
+lineOf page k = bundleText k (firstOf page k) (secondOf page k) (ltb k (countOf page)) (reachOf (successorsOf page k))
+
+-- the lines of n bundles from k on
 unfoldable pub bundleLines : List ℕ → ℕ → ℕ → List ℕ
 bundleLines page k zero = []
-bundleLines page k (suc n) =
-    bundleText k (firstOf page k) (secondOf page k) (ltb k (countOf page)) (reachOf (successorsOf page k))
-    ++ bundleLines page (suc k) n
+bundleLines page k (suc n) = lineOf page k ++ bundleLines page (suc k) n
 
 -- a page that is refused has one line
 abbrev pub listingBy : List ℕ → Verdict → List ℕ

@@ -10,8 +10,8 @@ ghost use Rattle.page.specs.Page.{pageFits, bundlesIn};
 ghost use Rattle.count.specs.Count.{countOf};
 ghost use Rattle.report.specs.ListerLines.{headText};
 ghost use Rattle.report.specs.Room.{writtenOf, placed};
-ghost use Rattle.listing.specs.Listing.{bundleLines, listingOf};
-ghost use Rattle.listing.specs.Text.{lineOf, Extended};
+ghost use Rattle.listing.specs.Listing.{lineOf, bundleLines, listingOf};
+ghost use Rattle.listing.specs.Text.{Extended};
 
 // A line has at most 36 bytes. Each of the next two puts one into the text, and answers where it ends.
 

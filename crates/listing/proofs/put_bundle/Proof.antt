@@ -4,7 +4,7 @@ use native.Mathlib.Omega.{arith}
 use lib.ListN.{length}
 use borrow.Author.Needs.{needs}
 use Rattle.page.specs.Theorems.{fitting}
-use Rattle.listing.specs.Text.{lineOf}
+use Rattle.listing.specs.Listing.{lineOf}
 use Rattle.listing.proofs.Lengths.{line-length}
 use Rattle.listing.proofs.Laws.{Put, bytes, no-refusal, behind, behind-length, extended, line-is}
 use Rattle.listing.proofs.put_bundle.Statement.{statement}

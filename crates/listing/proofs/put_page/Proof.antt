@@ -8,7 +8,7 @@ use Rattle.page.specs.Page.{bundlesIn}
 use Rattle.page.specs.Theorems.{fitting}
 use Rattle.report.specs.ListerLines.{headText}
 use Rattle.listing.specs.Listing.{bundleLines}
-use Rattle.listing.specs.Text.{lineOf}
+use Rattle.listing.specs.Listing.{lineOf}
 use Rattle.listing.proofs.Lengths.{head-length, line-length}
 use Rattle.listing.proofs.Laws.{none-passed, turn}
 use Rattle.listing.proofs.put_page.Statement.{statement}
