@@ -6,7 +6,7 @@ use lib.IntN.{pos}
 use Rattle.bits.specs.Fields.{bits}
 use Rattle.bits.specs.Integers.{SInt}
 use Rattle.isa.specs.declared.Instruction.{Instruction}
-use Rattle.isa.specs.declared.Instruction.the-variants.{Straight, Cbz, Cbnz, Bcc, B, Service, Unlisted}
+use Rattle.isa.specs.declared.Instruction.the-variants.{Data, Memory, Cbz, Cbnz, Bcc, B, Service, Unlisted}
 use Rattle.branch.specs.Branches.{targetOf}
 use Rattle.branch.specs.declared.Target.{Target}
 use Rattle.branch.specs.declared.Target.the-variants.{At}
@@ -37,7 +37,8 @@ serviceFlow ending.Bad = Bad
 
 -- offsets are signed for b and bcc, unsigned for cbz and cbnz
 unfoldable pub flowOf : List ℕ → ℕ → Instruction → Flow
-flowOf page place (Straight operation) = Next
+flowOf page place (Data operation) = Next
+flowOf page place (Memory access) = Next
 flowOf page place (Cbz imm6 n) = orNext (targetOf place (pos imm6))
 flowOf page place (Cbnz imm6 n) = orNext (targetOf place (pos imm6))
 flowOf page place (Bcc condition imm8) = orNext (targetOf place (SInt 8 imm8))
@@ -46,7 +47,8 @@ flowOf page place (Service n) = serviceFlow (endingOf (serviceOf page n))
 flowOf page place Unlisted = Bad
 
 abbrev pub listed : Instruction → Bool
-listed (Straight operation) = true
+listed (Data operation) = true
+listed (Memory access) = true
 listed (Cbz imm6 n) = true
 listed (Cbnz imm6 n) = true
 listed (Bcc condition imm8) = true

@@ -67,7 +67,8 @@ pub fn flow_of(page: &[u8], place: u16, i: Instruction) -> Flow
     ensures { λ r. ⌜ r ≡ flowOf (now (page .entry)) place i ⌝ }
 {
     match i {
-        Instruction::Straight(_) => Flow::Next,
+        Instruction::Data(_) => Flow::Next,
+        Instruction::Memory(_) => Flow::Next,
         Instruction::Cbz(imm6, _) => or_next(branch::compare_target(place, imm6)),
         Instruction::Cbnz(imm6, _) => or_next(branch::compare_target(place, imm6)),
         Instruction::Bcc(_, imm8) => or_next(branch::conditional_target(place, imm8)),
@@ -82,7 +83,8 @@ pub fn is_listed(i: Instruction) -> bool
     ensures { λ r. ⌜ r ≡ flow.listed i ⌝ }
 {
     match i {
-        Instruction::Straight(_) => true,
+        Instruction::Data(_) => true,
+        Instruction::Memory(_) => true,
         Instruction::Cbz(_, _) => true,
         Instruction::Cbnz(_, _) => true,
         Instruction::Bcc(_, _) => true,

@@ -5,9 +5,11 @@ use mathlib.Core.List.{List, [], _∷_, _++_}
 use Rattle.bits.specs.Fields.{bits}
 use Rattle.isa.specs.Patterns.{Bit, O, I, x, byte, matches}
 use Rattle.isa.specs.declared.Instruction.{Instruction}
-use Rattle.isa.specs.declared.Instruction.the-variants.{Straight, Cbz, Cbnz, Bcc, B, Service, Unlisted}
+use Rattle.isa.specs.declared.Instruction.the-variants.{Data, Memory, Cbz, Cbnz, Bcc, B, Service, Unlisted}
+use Rattle.isa.specs.declared.Access.{Access}
+use Rattle.isa.specs.declared.Access.the-variants.{LdrLit, StrSp, LdrSp, Str, Strb, Strh, Ldr, Ldrb, Ldrh, Ldrsb, Ldrsh}
 use Rattle.isa.specs.declared.Operation.{Operation}
-use Rattle.isa.specs.declared.Operation.the-variants.{LslImm, LsrImm, AsrImm, AddReg, SubReg, AddImm3, SubImm3, MovImm, CmpImm, AddImm, SubImm, And, Eor, LslReg, LsrReg, AsrReg, Adc, Sbc, RorReg, Tst, Rsb, CmpReg, Cmn, Orr, Mul, Bic, Mvn, MovReg, LdrLit, StrSp, LdrSp, AddSp, Sxth, Sxtb, Uxth, Uxtb, Nop, Str, Strb, Strh, Ldr, Ldrb, Ldrh, Ldrsb, Ldrsh, Movw, Movt, Sdiv, Udiv}
+use Rattle.isa.specs.declared.Operation.the-variants.{LslImm, LsrImm, AsrImm, AddReg, SubReg, AddImm3, SubImm3, MovImm, CmpImm, AddImm, SubImm, And, Eor, LslReg, LsrReg, AsrReg, Adc, Sbc, RorReg, Tst, Rsb, CmpReg, Cmn, Orr, Mul, Bic, Mvn, MovReg, AddSp, Sxth, Sxtb, Uxth, Uxtb, Nop, Movw, Movt, Sdiv, Udiv}
 
 -- a halfword whose top five bits are 11101, 11110 or 11111 opens a 32-bit instruction
 unfoldable pub opens32 : ℕ → Bool
@@ -40,16 +42,19 @@ decodeBy (row p m ∷ rows) w = cond (matches p w) (m w) (decodeBy rows w)
 
 -- three operands in bits 10-6 or 8-6, 5-3 and 2-0; two in bits 10-8 and 7-0; two in bits 5-3 and 2-0
 abbrev pub imm5-m-d : (ℕ → ℕ → ℕ → Operation) → ℕ → Instruction
-imm5-m-d op h = Straight (op (bits h 10 6) (bits h 5 3) (bits h 2 0))
+imm5-m-d op h = Data (op (bits h 10 6) (bits h 5 3) (bits h 2 0))
 
 abbrev pub m-n-d : (ℕ → ℕ → ℕ → Operation) → ℕ → Instruction
-m-n-d op h = Straight (op (bits h 8 6) (bits h 5 3) (bits h 2 0))
+m-n-d op h = Data (op (bits h 8 6) (bits h 5 3) (bits h 2 0))
 
 abbrev pub d-imm8 : (ℕ → ℕ → Operation) → ℕ → Instruction
-d-imm8 op h = Straight (op (bits h 10 8) (bits h 7 0))
+d-imm8 op h = Data (op (bits h 10 8) (bits h 7 0))
+
+abbrev pub t-imm8 : (ℕ → ℕ → Access) → ℕ → Instruction
+t-imm8 op h = Memory (op (bits h 10 8) (bits h 7 0))
 
 abbrev pub m-d : (ℕ → ℕ → Operation) → ℕ → Instruction
-m-d op h = Straight (op (bits h 5 3) (bits h 2 0))
+m-d op h = Data (op (bits h 5 3) (bits h 2 0))
 
 -- 00xxxxxx, 010000xx, and so on: a list for each line of the paper that the top byte sets apart
 abbrev pub lines16 : List (List Row)
@@ -83,16 +88,16 @@ lines16 =
     ∷ row (byte O I O O O O I I (byte I I x x x x x x [])) (m-d Mvn)
     ∷ [])
     ∷ (row (byte O I O O O I I O (byte O O x x x x x x [])) (m-d MovReg) ∷ [])
-    ∷ (row (byte O I O O I x x x (byte x x x x x x x x [])) (d-imm8 LdrLit) ∷ [])
-    ∷ (row (byte I O O I O x x x (byte x x x x x x x x [])) (d-imm8 StrSp) ∷ [])
-    ∷ (row (byte I O O I I x x x (byte x x x x x x x x [])) (d-imm8 LdrSp) ∷ [])
+    ∷ (row (byte O I O O I x x x (byte x x x x x x x x [])) (t-imm8 LdrLit) ∷ [])
+    ∷ (row (byte I O O I O x x x (byte x x x x x x x x [])) (t-imm8 StrSp) ∷ [])
+    ∷ (row (byte I O O I I x x x (byte x x x x x x x x [])) (t-imm8 LdrSp) ∷ [])
     ∷ (row (byte I O I O I x x x (byte x x x x x x x x [])) (d-imm8 AddSp) ∷ [])
     ∷ (row (byte I O I I O O I O (byte O O x x x x x x [])) (m-d Sxth)
     ∷ row (byte I O I I O O I O (byte O I x x x x x x [])) (m-d Sxtb)
     ∷ row (byte I O I I O O I O (byte I O x x x x x x [])) (m-d Uxth)
     ∷ row (byte I O I I O O I O (byte I I x x x x x x [])) (m-d Uxtb)
     ∷ [])
-    ∷ (row (byte I O I I I I I I (byte O O O O O O O O [])) (λ h. Straight Nop) ∷ [])
+    ∷ (row (byte I O I I I I I I (byte O O O O O O O O [])) (λ h. Data Nop) ∷ [])
     ∷ (row (byte I O I I O O x I (byte x x x x x x x x [])) (λ h. Cbz (imm6Of h) (bits h 2 0)) ∷ [])
     ∷ (row (byte I O I I I O x I (byte x x x x x x x x [])) (λ h. Cbnz (imm6Of h) (bits h 2 0)) ∷ [])
     -- 1101cccc with cccc 0 to 7, 8 to 11, 12 and 13
@@ -124,17 +129,17 @@ decode16Of h = decodeBy listed16 h
 
 -- ---- 32 bits: the first halfword, then the second
 
-abbrev pub t-imm12 : (ℕ → ℕ → Operation) → ℕ → Instruction
-t-imm12 op w = Straight (op (bits w 14 12) (bits w 11 0))
+abbrev pub t-imm12 : (ℕ → ℕ → Access) → ℕ → Instruction
+t-imm12 op w = Memory (op (bits w 14 12) (bits w 11 0))
 
-abbrev pub n-t-imm12 : (ℕ → ℕ → ℕ → Operation) → ℕ → Instruction
-n-t-imm12 op w = Straight (op (bits w 19 16) (bits w 14 12) (bits w 11 0))
+abbrev pub n-t-imm12 : (ℕ → ℕ → ℕ → Access) → ℕ → Instruction
+n-t-imm12 op w = Memory (op (bits w 19 16) (bits w 14 12) (bits w 11 0))
 
 abbrev pub imm16-d : (ℕ → ℕ → Operation) → ℕ → Instruction
-imm16-d op w = Straight (op (imm16Of w) (bits w 10 8))
+imm16-d op w = Data (op (imm16Of w) (bits w 10 8))
 
 abbrev pub n-d-m : (ℕ → ℕ → ℕ → Operation) → ℕ → Instruction
-n-d-m op w = Straight (op (bits w 18 16) (bits w 10 8) (bits w 2 0))
+n-d-m op w = Data (op (bits w 18 16) (bits w 10 8) (bits w 2 0))
 
 -- movw, movt, sdiv, udiv
 abbrev pub arithmetic32 : List Row

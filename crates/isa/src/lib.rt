@@ -5,8 +5,8 @@ ghost use Rattle.bits.specs.Fields.{bits};
 ghost use Rattle.isa.specs.ListedEncodings.{decodeBy, listed32, arithmetic32, decode16Of, decode32Of, opens32, imm16Of};
 ghost use Rattle.isa.specs.Classes.{classOf, operandsOf};
 
-// An instruction that goes on to the next one. Its operands are raw fields, in the order of their bits, highest first:
-// d, n, m and t are register numbers.
+// A data-processing instruction. Its operands are raw fields, in the order of their bits, highest first: d, n, m and t are
+// register numbers.
 pub enum Operation {
     // imm5, m, d
     LslImm(u8, u8, u8),
@@ -41,10 +41,7 @@ pub enum Operation {
     Bic(u8, u8),
     Mvn(u8, u8),
     MovReg(u8, u8),
-    // t, imm8 (AddSp: d, imm8)
-    LdrLit(u8, u8),
-    StrSp(u8, u8),
-    LdrSp(u8, u8),
+    // d, imm8
     AddSp(u8, u8),
     // m, d
     Sxth(u8, u8),
@@ -52,6 +49,20 @@ pub enum Operation {
     Uxth(u8, u8),
     Uxtb(u8, u8),
     Nop,
+    // imm16, d
+    Movw(u16, u8),
+    Movt(u16, u8),
+    // n, d, m
+    Sdiv(u8, u8, u8),
+    Udiv(u8, u8, u8),
+}
+
+// A load or a store.
+pub enum Access {
+    // t, imm8
+    LdrLit(u8, u8),
+    StrSp(u8, u8),
+    LdrSp(u8, u8),
     // t, imm12, with base r9
     Str(u8, u16),
     Strb(u8, u16),
@@ -62,17 +73,12 @@ pub enum Operation {
     Ldrh(u8, u8, u16),
     Ldrsb(u8, u8, u16),
     Ldrsh(u8, u8, u16),
-    // imm16, d
-    Movw(u16, u8),
-    Movt(u16, u8),
-    // n, d, m
-    Sdiv(u8, u8, u8),
-    Udiv(u8, u8, u8),
 }
 
 // What stands at a place. The operands are raw fields, in the order of their bits.
 pub enum Instruction {
-    Straight(Operation),
+    Data(Operation),
+    Memory(Access),
     // i:imm5, n
     Cbz(u8, u8),
     Cbnz(u8, u8),
@@ -170,7 +176,7 @@ fn register_operation(h: u16) -> Instruction
     let m = f.mid3;
     let d = f.low3;
     let op = bits::field(h as u32, 6, 4);
-    Instruction::Straight(
+    Instruction::Data(
         match op {
             0 => Operation::And(m, d),
             1 => Operation::Eor(m, d),
@@ -201,7 +207,7 @@ fn extension(h: u16) -> Instruction
     let m = f.mid3;
     let d = f.low3;
     let op = bits::field(h as u32, 6, 2);
-    Instruction::Straight(
+    Instruction::Data(
         match op {
             0 => Operation::Sxth(m, d),
             1 => Operation::Sxtb(m, d),
@@ -218,7 +224,7 @@ fn move_register(h: u16) -> Instruction
 {
     let f = read_operands(h);
     if f.imm8 < 64 {
-        Instruction::Straight(Operation::MovReg(f.mid3, f.low3))
+        Instruction::Data(Operation::MovReg(f.mid3, f.low3))
     } else {
         Instruction::Unlisted
     }
@@ -230,7 +236,7 @@ fn nop(h: u16) -> Instruction
     ensures { λ r. ⌜ r ≡ decode16Of h ⌝ }
 {
     if bits::field(h as u32, 0, 8) == 0 {
-        Instruction::Straight(Operation::Nop)
+        Instruction::Data(Operation::Nop)
     } else {
         Instruction::Unlisted
     }
@@ -259,23 +265,23 @@ fn of_class(k: u8, h: u16) -> Instruction
 {
     let f = read_operands(h);
     match k {
-        0 => Instruction::Straight(Operation::LslImm(f.imm5, f.mid3, f.low3)),
-        1 => Instruction::Straight(Operation::LsrImm(f.imm5, f.mid3, f.low3)),
-        2 => Instruction::Straight(Operation::AsrImm(f.imm5, f.mid3, f.low3)),
-        3 => Instruction::Straight(Operation::AddReg(f.high3, f.mid3, f.low3)),
-        4 => Instruction::Straight(Operation::SubReg(f.high3, f.mid3, f.low3)),
-        5 => Instruction::Straight(Operation::AddImm3(f.high3, f.mid3, f.low3)),
-        6 => Instruction::Straight(Operation::SubImm3(f.high3, f.mid3, f.low3)),
-        7 => Instruction::Straight(Operation::MovImm(f.bits_10_8, f.imm8)),
-        8 => Instruction::Straight(Operation::CmpImm(f.bits_10_8, f.imm8)),
-        9 => Instruction::Straight(Operation::AddImm(f.bits_10_8, f.imm8)),
-        10 => Instruction::Straight(Operation::SubImm(f.bits_10_8, f.imm8)),
+        0 => Instruction::Data(Operation::LslImm(f.imm5, f.mid3, f.low3)),
+        1 => Instruction::Data(Operation::LsrImm(f.imm5, f.mid3, f.low3)),
+        2 => Instruction::Data(Operation::AsrImm(f.imm5, f.mid3, f.low3)),
+        3 => Instruction::Data(Operation::AddReg(f.high3, f.mid3, f.low3)),
+        4 => Instruction::Data(Operation::SubReg(f.high3, f.mid3, f.low3)),
+        5 => Instruction::Data(Operation::AddImm3(f.high3, f.mid3, f.low3)),
+        6 => Instruction::Data(Operation::SubImm3(f.high3, f.mid3, f.low3)),
+        7 => Instruction::Data(Operation::MovImm(f.bits_10_8, f.imm8)),
+        8 => Instruction::Data(Operation::CmpImm(f.bits_10_8, f.imm8)),
+        9 => Instruction::Data(Operation::AddImm(f.bits_10_8, f.imm8)),
+        10 => Instruction::Data(Operation::SubImm(f.bits_10_8, f.imm8)),
         11 => register_operation(h),
         12 => move_register(h),
-        13 => Instruction::Straight(Operation::LdrLit(f.bits_10_8, f.imm8)),
-        14 => Instruction::Straight(Operation::StrSp(f.bits_10_8, f.imm8)),
-        15 => Instruction::Straight(Operation::LdrSp(f.bits_10_8, f.imm8)),
-        16 => Instruction::Straight(Operation::AddSp(f.bits_10_8, f.imm8)),
+        13 => Instruction::Memory(Access::LdrLit(f.bits_10_8, f.imm8)),
+        14 => Instruction::Memory(Access::StrSp(f.bits_10_8, f.imm8)),
+        15 => Instruction::Memory(Access::LdrSp(f.bits_10_8, f.imm8)),
+        16 => Instruction::Data(Operation::AddSp(f.bits_10_8, f.imm8)),
         17 => extension(h),
         18 => nop(h),
         19 => Instruction::Cbz(f.imm6, f.low3),
@@ -317,16 +323,16 @@ fn arithmetic(w: u32) -> Instruction
     let m = bits::field(w, 0, 3) as u8;
     let imm = imm16(w);
     if w & 0xFBF0_8800 == 0xF240_0000 {
-        return Instruction::Straight(Operation::Movw(imm, d));
+        return Instruction::Data(Operation::Movw(imm, d));
     }
     if w & 0xFBF0_8800 == 0xF2C0_0000 {
-        return Instruction::Straight(Operation::Movt(imm, d));
+        return Instruction::Data(Operation::Movt(imm, d));
     }
     if w & 0xFFF8_F8F8 == 0xFB90_F0F0 {
-        return Instruction::Straight(Operation::Sdiv(n, d, m));
+        return Instruction::Data(Operation::Sdiv(n, d, m));
     }
     if w & 0xFFF8_F8F8 == 0xFBB0_F0F0 {
-        return Instruction::Straight(Operation::Udiv(n, d, m));
+        return Instruction::Data(Operation::Udiv(n, d, m));
     }
     Instruction::Unlisted
 }
@@ -341,28 +347,28 @@ fn by_word(w: u32) -> Instruction
     let store = w & 0xFFFF_8000;
     let load = w & 0xFFFE_8000;
     if store == 0xF8C9_0000 {
-        return Instruction::Straight(Operation::Str(t, imm12));
+        return Instruction::Memory(Access::Str(t, imm12));
     }
     if store == 0xF889_0000 {
-        return Instruction::Straight(Operation::Strb(t, imm12));
+        return Instruction::Memory(Access::Strb(t, imm12));
     }
     if store == 0xF8A9_0000 {
-        return Instruction::Straight(Operation::Strh(t, imm12));
+        return Instruction::Memory(Access::Strh(t, imm12));
     }
     if load == 0xF8D8_0000 {
-        return Instruction::Straight(Operation::Ldr(n, t, imm12));
+        return Instruction::Memory(Access::Ldr(n, t, imm12));
     }
     if load == 0xF898_0000 {
-        return Instruction::Straight(Operation::Ldrb(n, t, imm12));
+        return Instruction::Memory(Access::Ldrb(n, t, imm12));
     }
     if load == 0xF8B8_0000 {
-        return Instruction::Straight(Operation::Ldrh(n, t, imm12));
+        return Instruction::Memory(Access::Ldrh(n, t, imm12));
     }
     if load == 0xF998_0000 {
-        return Instruction::Straight(Operation::Ldrsb(n, t, imm12));
+        return Instruction::Memory(Access::Ldrsb(n, t, imm12));
     }
     if load == 0xF9B8_0000 {
-        return Instruction::Straight(Operation::Ldrsh(n, t, imm12));
+        return Instruction::Memory(Access::Ldrsh(n, t, imm12));
     }
     arithmetic(w)
 }

@@ -3,7 +3,7 @@ use mathlib.Core.Bool.{true, false}
 use native.Mathlib.Omega.{arith}
 use Rattle.isa.specs.Patterns.{matches}
 use Rattle.isa.specs.Classes.{classOf}
-use Rattle.isa.specs.declared.Instruction.the-variants.{Straight}
+use Rattle.isa.specs.declared.Instruction.the-variants.{Data}
 use Rattle.isa.specs.declared.Operation.the-variants.{Nop}
 use Rattle.isa.proofs.Classes.{by-low}
 use borrow.Author.Needs.{needs}
@@ -15,11 +15,11 @@ field-requires c κs = search needs
 
 returns : tie.Need-returns
 unfolding classOf matches
-returns c = by-low 0xBF 18 refl (λ h. Straight Nop) (refl, tt) true 0 1 refl (c .before .before .args .h) (c .before .before .pre) (omega arith) (omega arith)
+returns c = by-low 0xBF 18 refl (λ h. Data Nop) (refl, tt) true 0 1 refl (c .before .before .args .h) (c .before .before .pre) (omega arith) (omega arith)
 
 returns-2 : tie.Need-returns-2
 unfolding classOf matches
-returns-2 c = by-low 0xBF 18 refl (λ h. Straight Nop) (refl, tt) false 1 255 refl (c .before .before .args .h) (c .before .before .pre) (omega arith) (omega arith)
+returns-2 c = by-low 0xBF 18 refl (λ h. Data Nop) (refl, tt) false 1 255 refl (c .before .before .args .h) (c .before .before .pre) (omega arith) (omega arith)
 
 pub nop-spec : {M : Type 1} → statement M
 nop-spec = tie.close (tie.spec field-requires returns returns-2)

@@ -6,9 +6,10 @@ use borrow.Author.Tests.{eqb-true}
 use Rattle.laws.specs.Runs.{past}
 use Rattle.bits.specs.Fields.{bits}
 use Rattle.isa.specs.Patterns.{matches}
-use Rattle.isa.specs.ListedEncodings.{imm5-m-d, m-n-d, d-imm8, imm6Of}
+use Rattle.isa.specs.ListedEncodings.{imm5-m-d, m-n-d, d-imm8, t-imm8, imm6Of}
 use Rattle.isa.specs.declared.Instruction.the-variants.{Cbz, Cbnz, Bcc, B}
-use Rattle.isa.specs.declared.Operation.the-variants.{LslImm, LsrImm, AsrImm, AddReg, SubReg, AddImm3, SubImm3, MovImm, CmpImm, AddImm, SubImm, LdrLit, StrSp, LdrSp, AddSp}
+use Rattle.isa.specs.declared.Operation.the-variants.{LslImm, LsrImm, AsrImm, AddReg, SubReg, AddImm3, SubImm3, MovImm, CmpImm, AddImm, SubImm, AddSp}
+use Rattle.isa.specs.declared.Access.the-variants.{LdrLit, StrSp, LdrSp}
 use Rattle.isa.proofs.Classes.{by-class, class-tops, no-class}
 use borrow.Author.Needs.{needs}
 use Rattle.isa.proofs.of_class.Statement.{statement}
@@ -77,13 +78,13 @@ returns-13 : tie.Need-returns-13
 returns-13 c = search needs
 
 returns-14 : tie.Need-returns-14
-returns-14 c = rw (c .before .read-operands .ensures) (by-class 13 (d-imm8 LdrLit) (refl, refl, tt) (lit< tt) (c .before .before .args .h) (sym (c .match .keys14) ∙ c .before .before .pre))
+returns-14 c = rw (c .before .read-operands .ensures) (by-class 13 (t-imm8 LdrLit) (refl, refl, tt) (lit< tt) (c .before .before .args .h) (sym (c .match .keys14) ∙ c .before .before .pre))
 
 returns-15 : tie.Need-returns-15
-returns-15 c = rw (c .before .read-operands .ensures) (by-class 14 (d-imm8 StrSp) (refl, refl, tt) (lit< tt) (c .before .before .args .h) (sym (c .match .keys15) ∙ c .before .before .pre))
+returns-15 c = rw (c .before .read-operands .ensures) (by-class 14 (t-imm8 StrSp) (refl, refl, tt) (lit< tt) (c .before .before .args .h) (sym (c .match .keys15) ∙ c .before .before .pre))
 
 returns-16 : tie.Need-returns-16
-returns-16 c = rw (c .before .read-operands .ensures) (by-class 15 (d-imm8 LdrSp) (refl, refl, tt) (lit< tt) (c .before .before .args .h) (sym (c .match .keys16) ∙ c .before .before .pre))
+returns-16 c = rw (c .before .read-operands .ensures) (by-class 15 (t-imm8 LdrSp) (refl, refl, tt) (lit< tt) (c .before .before .args .h) (sym (c .match .keys16) ∙ c .before .before .pre))
 
 returns-17 : tie.Need-returns-17
 returns-17 c = rw (c .before .read-operands .ensures) (by-class 16 (d-imm8 AddSp) (refl, refl, tt) (lit< tt) (c .before .before .args .h) (sym (c .match .keys17) ∙ c .before .before .pre))
