@@ -28,7 +28,7 @@ operations external a =
     LongBranch
     ∷ Preload
     ∷ SetBase (cond external 0x80000000 0 + a)
-    ∷ cond external Bad (LowerSp (4 * a))
+    ∷ cond external Bad (LowerSp a)
     ∷ cond external Bad (StoreAtSp (a / 2 ^ 21) (a % 2 ^ 21))
     ∷ cond external Bad (LoadAtSp (a / 2 ^ 21) (a % 2 ^ 21))
     ∷ []
@@ -50,7 +50,7 @@ serviceOf page n =
     cond (leb n 0x00) Return
     (cond (leb n 0x7F) (byLiteral page n)
     (cond (leb n 0xBF) (DirectSyscall (bits n 5 0))
-    (cond (leb n 0xDF) (LowerSp (4 * bits n 4 0))
+    (cond (leb n 0xDF) (LowerSp (bits n 4 0))
     (cond (leb n 0xE7) (Validate (bits n 2 0))
     (cond (leb n 0xE8) Breakpoint
     (cond (leb n 0xEF) Bad

@@ -16,7 +16,7 @@ pub enum Service {
     // register, bytes above SP
     StoreAtSp(u8, u32),
     LoadAtSp(u8, u32),
-    // the bytes that SP moves down by, by the literal word or by the halfword
+    // the words that SP moves down by, by the literal word or by the halfword
     LowerSp(u32),
     // by the halfword alone: number, or register
     DirectSyscall(u8),
@@ -99,7 +99,7 @@ fn address_operation(w: u32) -> Service
         1 => Service::Preload,
         2 => Service::SetBase(0x8000_0000 * external + a),
         3 => if external == 0 {
-            Service::LowerSp(4 * a)
+            Service::LowerSp(a)
         } else {
             Service::Bad
         },
@@ -156,7 +156,7 @@ pub fn service_of(page: &[u8], n: u8) -> Service
         return Service::DirectSyscall(n % 64);
     }
     if n <= 0xDF {
-        return Service::LowerSp(4 * ((n % 32) as u32));
+        return Service::LowerSp((n % 32) as u32);
     }
     if n <= 0xE7 {
         return Service::Validate(register);

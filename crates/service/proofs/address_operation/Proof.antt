@@ -26,14 +26,11 @@ mul-t6 c = search needs
 add-t7 : tie.Need-add-t7
 add-t7 c = search needs
 
-mul-t10 : tie.Need-mul-t10
-mul-t10 c = search needs
+cast-t13 : tie.Need-cast-t13
+cast-t13 c = search needs
 
-cast-t14 : tie.Need-cast-t14
-cast-t14 c = search needs
-
-cast-t19 : tie.Need-cast-t19
-cast-t19 c = search needs
+cast-t18 : tie.Need-cast-t18
+cast-t18 c = search needs
 
 -- by the fields that the code reads
 abbrev listed : tie.After-field3 → List Service
@@ -112,9 +109,8 @@ address-operation-spec =
     field-requires-3
     mul-t6
     add-t7
-    mul-t10
-    cast-t14
-    cast-t19
+    cast-t13
+    cast-t18
     returns
     returns-2
     returns-3

@@ -34,9 +34,6 @@ returns-3 c =
 cast-t7 : tie.Need-cast-t7
 cast-t7 c = search needs
 
-mul-t8 : tie.Need-mul-t8
-mul-t8 c = search needs
-
 returns-4 : tie.Need-returns-4
 unfolding serviceOf
 returns-4 c =
@@ -124,7 +121,6 @@ service-of-spec =
     returns-2
     returns-3
     cast-t7
-    mul-t8
     returns-4
     returns-5
     returns-6
