@@ -1,0 +1,69 @@
+-- Loads and stores by the stack pointer, by the base and from the literal pool.
+use Prim.Native.Nat.{ℕ, _+_, _-_, _*_, _/_}
+use mathlib.Core.Bool.{cond}
+use mathlib.Core.List.{List}
+use lib.Dec.{ltb, eqb}
+use Rattle.endian.specs.declared.Size.{Size}
+use Rattle.endian.specs.declared.Size.the-variants.{Byte, Halfword, Word}
+use Rattle.page.specs.Page.{bundlesIn, wordAt}
+use Rattle.memory.specs.Memory.{ramLoaded, ramStored, ramAfter, loadedBy, storedBy, afterStoreBy, signedLoaded}
+use Rattle.memory.specs.declared.Fault.the-variants.{PastStack, LowStack, PastPage}
+use Rattle.memory.specs.declared.Loaded.{Loaded}
+use Rattle.memory.specs.declared.Loaded.the-variants.{Value}
+use Rattle.memory.specs.declared.Loaded.the-variants as loaded
+use Rattle.memory.specs.declared.Stored.{Stored}
+use Rattle.memory.specs.declared.Stored.the-variants as stored
+use Rattle.isa.specs.declared.Access.{Access}
+use Rattle.isa.specs.declared.Access.the-variants.{LdrLit, StrSp, LdrSp, Str, Strb, Strh, Ldr, Ldrb, Ldrh, Ldrsb, Ldrsh}
+use Rattle.state.specs.Record.{register}
+use Rattle.state.specs.declared.Record.{Record}
+use Rattle.effects.specs.Outcomes.{Outcome, loadTo, storeWith}
+
+-- ---- the stack: a word at an address, which is SP and more, without wrapping. Past 0x18000 is fault 4. Below 0x10000 it is SP
+-- that lies there, fault 5; no fit record has such an SP
+
+unfoldable pub stackLoaded : List ℕ → ℕ → Loaded
+stackLoaded ram address =
+    cond (ltb address 0x10000) (loaded.Fails LowStack) (ramLoaded ram (address - 0x10000) Word PastStack)
+
+unfoldable pub stackStored : ℕ → Stored
+stackStored address = cond (ltb address 0x10000) (stored.Fails LowStack) (ramStored (address - 0x10000) Word PastStack)
+
+unfoldable pub afterStackStore : List ℕ → ℕ → ℕ → List ℕ
+afterStackStore ram address x = cond (ltb address 0x10000) ram (ramAfter ram (address - 0x10000) Word x)
+
+abbrev pub loadAt : Record → List ℕ → ℕ → ℕ → Outcome
+loadAt r ram t address = loadTo r ram t (stackLoaded ram address)
+
+abbrev pub storeAt : Record → List ℕ → ℕ → ℕ → Outcome
+storeAt r ram t address = storeWith r (stackStored address) (afterStackStore ram address (register r t))
+
+-- ---- the literal pool: in bundle k, the word of bundle k + 1 + imm8, from either half; past the page is fault 6
+
+unfoldable pub literalLoaded : List ℕ → ℕ → ℕ → Loaded
+literalLoaded page place imm8 =
+    cond (ltb (place / 2 + 1 + imm8) (bundlesIn page)) (Value (wordAt page (place / 2 + 1 + imm8))) (loaded.Fails PastPage)
+
+-- ---- by the base: stores by r9; loads by r8 or r9, of which r9 needs a RAM base
+
+abbrev pub storeBase : Record → List ℕ → Size → ℕ → ℕ → Outcome
+storeBase r ram size t imm12 =
+    storeWith r (storedBy (r .base) imm12 size) (afterStoreBy (r .base) ram imm12 size (register r t))
+
+abbrev pub loadedBase : Record → List ℕ → List ℕ → Size → ℕ → ℕ → Loaded
+loadedBase r ram external size n imm12 = loadedBy (r .base) (eqb n 9) ram external imm12 size
+
+-- ---- the instructions, in the order of the listed encodings, with the operands of their encoding
+
+abbrev pub accessed : List ℕ → List ℕ → Access → Record → List ℕ → Outcome
+accessed page external (LdrLit t imm8) r ram = loadTo r ram t (literalLoaded page (r .place) imm8)
+accessed page external (StrSp t imm8) r ram = storeAt r ram t (r .sp + 4 * imm8)
+accessed page external (LdrSp t imm8) r ram = loadAt r ram t (r .sp + 4 * imm8)
+accessed page external (Str t imm12) r ram = storeBase r ram Word t imm12
+accessed page external (Strb t imm12) r ram = storeBase r ram Byte t imm12
+accessed page external (Strh t imm12) r ram = storeBase r ram Halfword t imm12
+accessed page external (Ldr n t imm12) r ram = loadTo r ram t (loadedBase r ram external Word n imm12)
+accessed page external (Ldrb n t imm12) r ram = loadTo r ram t (loadedBase r ram external Byte n imm12)
+accessed page external (Ldrh n t imm12) r ram = loadTo r ram t (loadedBase r ram external Halfword n imm12)
+accessed page external (Ldrsb n t imm12) r ram = loadTo r ram t (signedLoaded Byte (loadedBase r ram external Byte n imm12))
+accessed page external (Ldrsh n t imm12) r ram = loadTo r ram t (signedLoaded Halfword (loadedBase r ram external Halfword n imm12))

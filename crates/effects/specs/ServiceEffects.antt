@@ -1,0 +1,41 @@
+-- Services: what each does to registers, SP, base and RAM.
+use Prim.Native.Nat.{ℕ, _+_, _-_, _*_}
+use mathlib.Core.Bool.{cond}
+use mathlib.Core.List.{List}
+use lib.Dec.{ltb}
+use Rattle.service.specs.declared.Service.{Service}
+use Rattle.service.specs.declared.Service.the-variants.{Return, Call, TailCall, Syscall, TailSyscall, LongBranch, Preload, SetBase, StoreAtSp, LoadAtSp, LowerSp, DirectSyscall, Validate, Breakpoint, CallRegister, TailCallRegister, Bad}
+use Rattle.memory.specs.declared.Fault.the-variants.{LowStack}
+use Rattle.state.specs.Record.{register, withSp, withBase}
+use Rattle.state.specs.Validation.{validated}
+use Rattle.state.specs.declared.Record.{Record}
+use Rattle.effects.specs.Outcomes.{Outcome, does, fails, leavesNone}
+use Rattle.effects.specs.LoadsAndStores.{loadAt, storeAt}
+
+-- SP less 4 bytes a word; below 0x10000 is fault 5
+unfoldable pub lowerSp : Record → List ℕ → ℕ → Outcome
+lowerSp r ram words = cond (ltb (r .sp) (0x10000 + 4 * words)) (fails LowStack) (does (withSp r (r .sp - 4 * words)) ram)
+
+-- base = validate(v)
+abbrev pub setBase : Record → List ℕ → ℕ → ℕ → Outcome
+setBase r ram v external = does (withBase r (validated v external)) ram
+
+-- every service except setting the base leaves the base none; an exit does nothing else here
+abbrev pub serviceDoes : ℕ → Service → Record → List ℕ → Outcome
+serviceDoes external Return r ram = leavesNone (does r ram)
+serviceDoes external Call r ram = leavesNone (does r ram)
+serviceDoes external TailCall r ram = leavesNone (does r ram)
+serviceDoes external Syscall r ram = leavesNone (does r ram)
+serviceDoes external TailSyscall r ram = leavesNone (does r ram)
+serviceDoes external LongBranch r ram = leavesNone (does r ram)
+serviceDoes external Preload r ram = leavesNone (does r ram)
+serviceDoes external (SetBase a) r ram = setBase r ram a external
+serviceDoes external (StoreAtSp t a) r ram = leavesNone (storeAt r ram t (r .sp + a))
+serviceDoes external (LoadAtSp t a) r ram = leavesNone (loadAt r ram t (r .sp + a))
+serviceDoes external (LowerSp words) r ram = leavesNone (lowerSp r ram words)
+serviceDoes external (DirectSyscall n) r ram = leavesNone (does r ram)
+serviceDoes external (Validate n) r ram = setBase r ram (register r n) external
+serviceDoes external Breakpoint r ram = leavesNone (does r ram)
+serviceDoes external (CallRegister n) r ram = leavesNone (does r ram)
+serviceDoes external (TailCallRegister n) r ram = leavesNone (does r ram)
+serviceDoes external Bad r ram = leavesNone (does r ram)

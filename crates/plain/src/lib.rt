@@ -1,0 +1,1 @@
+// No code: the plain machine, over any definition of an instruction.

@@ -1,0 +1,27 @@
+-- Stops: the build paper's number and values for each.
+use Prim.Native.Nat.{ℕ}
+use Rattle.refusal.specs.Refusals.{numberOf}
+use Rattle.memory.specs.Faults.{faultNumber}
+use Rattle.stop.specs.declared.Stop.{Stop}
+use Rattle.stop.specs.declared.Stop.the-variants.{Budget, Service, ServiceBy, Fault, Mark, Refused}
+
+-- what a service exit carries: the low byte and, for 01-7F, the literal
+pub data Exit : Type 0 where
+  direct : ℕ → Exit
+  byLiteral : ℕ → ℕ → Exit
+
+-- "budget", a service exit, a fault's number, the mark of an unlisted halfword, a refusal's number
+pub data Reason : Type 0 where
+  budget : Reason
+  service : Exit → Reason
+  fault : ℕ → Reason
+  mark : Reason
+  refused : ℕ → Reason
+
+abbrev pub reasonOf : Stop → Reason
+reasonOf Budget = budget
+reasonOf (Service n) = service (direct n)
+reasonOf (ServiceBy n literal) = service (byLiteral n literal)
+reasonOf (Fault f) = fault (faultNumber f)
+reasonOf Mark = mark
+reasonOf (Refused r) = refused (numberOf r)
