@@ -55,7 +55,7 @@ loadedBase r ram external size n imm12 = loadedBy (r .base) (eqb n 9) ram extern
 
 -- ---- the instructions, in the order of the listed encodings, with the operands of their encoding
 
-abbrev pub accessed : List ℕ → List ℕ → Access → Record → List ℕ → Outcome
+unfoldable pub accessed : List ℕ → List ℕ → Access → Record → List ℕ → Outcome
 accessed page external (LdrLit t imm8) r ram = loadTo r ram t (literalLoaded page (r .place) imm8)
 accessed page external (StrSp t imm8) r ram = storeAt r ram t (r .sp + 4 * imm8)
 accessed page external (LdrSp t imm8) r ram = loadAt r ram t (r .sp + 4 * imm8)

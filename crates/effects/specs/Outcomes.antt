@@ -20,36 +20,36 @@ pub data Outcome : Type 0 where
   fails : Fault → Outcome
 
 -- what was loaded goes to register t
-abbrev pub loadTo : Record → List ℕ → ℕ → Loaded → Outcome
+unfoldable pub loadTo : Record → List ℕ → ℕ → Loaded → Outcome
 loadTo r ram t (Value x) = does (withRegister r t x) ram
 loadTo r ram t (loaded.Fails fault) = fails fault
 
 -- a store leaves the RAM after it
-abbrev pub storeWith : Record → Stored → List ℕ → Outcome
+unfoldable pub storeWith : Record → Stored → List ℕ → Outcome
 storeWith r Done after = does r after
 storeWith r (stored.Fails fault) after = fails fault
 
 -- the base is none afterwards
-abbrev pub leavesNone : Outcome → Outcome
+unfoldable pub leavesNone : Outcome → Outcome
 leavesNone (does r ram) = does (withBase r Nothing) ram
 leavesNone (fails fault) = fails fault
 
 -- ---- what the code gives back for an outcome
 
-abbrev pub didOf : Record → Outcome → Did
+unfoldable pub didOf : Record → Outcome → Did
 didOf r (does s ram) = record { met = Done; after = s }
 didOf r (fails fault) = record { met = stored.Fails fault; after = r }
 
-abbrev pub ramOf : List ℕ → Outcome → List ℕ
+unfoldable pub ramOf : List ℕ → Outcome → List ℕ
 ramOf ram (does r after) = after
 ramOf ram (fails fault) = ram
 
 -- by what was loaded, and where the base is none afterwards
-abbrev pub loadDid : Record → ℕ → Loaded → Did
+unfoldable pub loadDid : Record → ℕ → Loaded → Did
 loadDid r t (Value x) = record { met = Done; after = withRegister r t x }
 loadDid r t (loaded.Fails fault) = record { met = stored.Fails fault; after = r }
 
-abbrev pub noneDid : Stored → Record → Did
+unfoldable pub noneDid : Stored → Record → Did
 noneDid Done r = record { met = Done; after = withBase r Nothing }
 noneDid (stored.Fails fault) r = record { met = stored.Fails fault; after = r }
 

@@ -21,7 +21,7 @@ abbrev pub setBase : Record → List ℕ → ℕ → ℕ → Outcome
 setBase r ram v external = does (withBase r (validated v external)) ram
 
 -- every service except setting the base leaves the base none; an exit does nothing else here
-abbrev pub serviceDoes : ℕ → Service → Record → List ℕ → Outcome
+unfoldable pub serviceDoes : ℕ → Service → Record → List ℕ → Outcome
 serviceDoes external Return r ram = leavesNone (does r ram)
 serviceDoes external Call r ram = leavesNone (does r ram)
 serviceDoes external TailCall r ram = leavesNone (does r ram)

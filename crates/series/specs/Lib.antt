@@ -1,3 +1,4 @@
 pub mod Traces
 pub mod Series
+pub mod Runs
 pub mod Theorems

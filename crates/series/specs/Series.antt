@@ -118,9 +118,10 @@ module _ (Setting : Type 0) (instruction : Setting → Record → List ℕ → E
           → (getD (trace (instruction setting) (c .total) (c .rec) (c .ram)) i (c .rec) ≡ entry setting c i .rec)
           × (entry setting c i .steps ≡ i)
 
-    -- another call gives back what it was handed
+    -- another call is refused by its table, and gives back what it was handed
     pub record OtherCall (c : Call) : Type 0 where
       pub why : Refusal
+      pub refuses : verdictOf (c .setting) (c .rec) (c .ram) ≡ Refused why
       pub gives : c .gave ≡ record { stop = refused (numberOf why); steps = 0; rec = c .rec; ram = c .ram }
 
     abbrev pub SoundBy : Role → Setting → Call → Type 0

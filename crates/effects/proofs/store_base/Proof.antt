@@ -1,0 +1,22 @@
+use Rattle.effects.proofs.Laws.{store-did, base-ram}
+use borrow.Author.Needs.{needs}
+use Rattle.effects.proofs.store_base.Statement.{statement}
+use Rattle.effects.proofs.store_base.Tie as tie
+
+register-of-requires : tie.Need-register-of-requires
+register-of-requires c κs = search needs
+
+store-by-requires : tie.Need-store-by-requires
+store-by-requires c κs = search needs
+
+same-length : tie.Need-same-length
+same-length c = search needs
+
+returns : tie.Need-returns
+returns c = (
+      rw (c .before .before .store-by .ensures .0) (store-did _ _ _),
+      rw (c .before .before .store-by .ensures .1, c .before .before .before .register-of .ensures) (base-ram _ _ _ _ _ _),
+    )
+
+pub store-base-spec : {M : Type 1} → statement M
+store-base-spec = tie.close (tie.spec register-of-requires store-by-requires same-length returns)
