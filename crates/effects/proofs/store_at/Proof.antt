@@ -14,9 +14,9 @@ same-length c = search needs
 
 returns : tie.Need-returns
 returns c = (
-      rw (c .before .before .stack-store .ensures .0) (store-did _ _ _),
-      rw (c .before .before .stack-store .ensures .1, c .before .before .before .register-of .ensures) (stack-ram _ _ _ _),
-    )
+  rw (c .before .before .stack-store .ensures .0) (store-did _ _ _),
+  rw (c .before .before .stack-store .ensures .1, c .before .before .before .register-of .ensures) (stack-ram _ _ _ _),
+)
 
 pub store-at-spec : {M : Type 1} → statement M
 store-at-spec = tie.close (tie.spec register-of-requires stack-store-requires same-length returns)

@@ -14,9 +14,9 @@ same-length c = search needs
 
 returns : tie.Need-returns
 returns c = (
-      rw (c .before .before .store-by .ensures .0) (store-did _ _ _),
-      rw (c .before .before .store-by .ensures .1, c .before .before .before .register-of .ensures) (base-ram _ _ _ _ _ _),
-    )
+  rw (c .before .before .store-by .ensures .0) (store-did _ _ _),
+  rw (c .before .before .store-by .ensures .1, c .before .before .before .register-of .ensures) (base-ram _ _ _ _ _ _),
+)
 
 pub store-base-spec : {M : Type 1} → statement M
 store-base-spec = tie.close (tie.spec register-of-requires store-by-requires same-length returns)

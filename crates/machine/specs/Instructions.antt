@@ -1,0 +1,87 @@
+-- The definition of an instruction: it reads the page at the place and isn't given the count. A fault or the mark of what is not
+-- listed changes nothing.
+use Prim.Native.Nat.{ℕ, _*_}
+use mathlib.Core.Bool.{Bool, true, not, _&&_, cond}
+use mathlib.Core.List.{List}
+use lib.Dec.{eqb, leb}
+use lib.IntN.{pos}
+use lib.ListN.{length}
+use Rattle.bits.specs.Fields.{bits}
+use Rattle.bits.specs.Integers.{SInt}
+use Rattle.arm.specs.Conditions.{conditionHolds}
+use Rattle.page.specs.Page.{wordAt}
+use Rattle.isa.specs.declared.Instruction.{Instruction}
+use Rattle.isa.specs.declared.Instruction.the-variants.{Data, Memory, Cbz, Cbnz, Bcc, B, Service, Unlisted}
+use Rattle.branch.specs.Branches.{targetOf}
+use Rattle.branch.specs.declared.Target.{Target}
+use Rattle.branch.specs.declared.Target.the-variants.{At}
+use Rattle.branch.specs.declared.Target.the-variants as target
+use Rattle.service.specs.Services.{serviceOf, endingOf}
+use Rattle.service.specs.declared.Ending.{Ending}
+use Rattle.service.specs.declared.Ending.the-variants as ending
+use Rattle.state.specs.Record.{register, withPlace}
+use Rattle.state.specs.declared.Record.{Record}
+use Rattle.compute.specs.Computed.{computed}
+use Rattle.effects.specs.Outcomes.{Outcome, does, fails}
+use Rattle.effects.specs.LoadsAndStores.{accessed}
+use Rattle.effects.specs.ServiceEffects.{serviceDoes}
+use Rattle.stop.specs.Stops.{Exit, direct, byLiteral}
+use Rattle.plain.specs.PlainMachine.{Effect, goesOn, exits, faults, unlisted}
+use Rattle.place.specs.Places.{instructionAt, following}
+
+-- ---- where it goes
+
+-- on, at a place
+unfoldable pub goOnAt : ℕ → Outcome → Effect
+goOnAt place (does r ram) = goesOn (withPlace r place) ram
+goOnAt place (fails fault) = faults fault
+
+-- it exits, at a place
+unfoldable pub exitAt : Exit → ℕ → Outcome → Effect
+exitAt exit place (does r ram) = exits exit (withPlace r place) ram
+exitAt exit place (fails fault) = faults fault
+
+-- a branch that is taken goes to the first half of its target; one that has none means nothing listed
+unfoldable pub branchTo : Record → List ℕ → Target → Effect
+branchTo r ram target.Bad = unlisted
+branchTo r ram (At b) = goesOn (withPlace r (2 * b)) ram
+
+-- one that is not taken goes on behind itself
+unfoldable pub branchIf : Bool → Record → List ℕ → ℕ → Target → Effect
+branchIf taken r ram next t = cond taken (branchTo r ram t) (goesOn (withPlace r next) ram)
+
+-- ---- services
+
+-- what an exit carries: the low byte and, for 01-7F, the literal
+unfoldable pub exitOf : List ℕ → ℕ → Exit
+exitOf page n = cond (leb 0x01 n && leb n 0x7F) (byLiteral n (wordAt page n)) (direct n)
+
+-- a terminator keeps its place at an exit, any other exit moves on
+unfoldable pub servedBy : Ending → Exit → ℕ → ℕ → Outcome → Effect
+servedBy ending.GoesOn exit here next o = goOnAt next o
+servedBy ending.Exit exit here next o = exitAt exit next o
+servedBy ending.LastExit exit here next o = exitAt exit here o
+servedBy ending.Bad exit here next o = unlisted
+
+unfoldable pub served : List ℕ → List ℕ → Record → List ℕ → ℕ → Effect
+served page external r ram n =
+    servedBy (endingOf (serviceOf page n)) (exitOf page n) (r .place) (following page (r .place))
+    (serviceDoes (length external) (serviceOf page n) r ram)
+
+-- ---- every instruction
+
+unfoldable pub effectOf : List ℕ → List ℕ → Record → List ℕ → Instruction → Effect
+effectOf page external r ram (Data operation) = goOnAt (following page (r .place)) (does (computed operation r) ram)
+effectOf page external r ram (Memory access) = goOnAt (following page (r .place)) (accessed page external access r ram)
+effectOf page external r ram (Cbz imm6 n) =
+    branchIf (eqb (register r n) 0) r ram (following page (r .place)) (targetOf (r .place) (pos imm6))
+effectOf page external r ram (Cbnz imm6 n) =
+    branchIf (not (eqb (register r n) 0)) r ram (following page (r .place)) (targetOf (r .place) (pos imm6))
+effectOf page external r ram (Bcc condition imm8) =
+    branchIf (conditionHolds condition (r .flags)) r ram (following page (r .place)) (targetOf (r .place) (SInt 8 imm8))
+effectOf page external r ram (B imm11) = branchTo r ram (targetOf (r .place) (SInt 11 (bits imm11 10 0)))
+effectOf page external r ram (Service n) = served page external r ram n
+effectOf page external r ram Unlisted = unlisted
+
+unfoldable pub instructionOf : List ℕ → List ℕ → Record → List ℕ → Effect
+instructionOf page external r ram = effectOf page external r ram (instructionAt page (r .place))

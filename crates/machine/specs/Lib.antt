@@ -1,0 +1,3 @@
+pub mod Instructions
+pub mod Runs
+pub mod Executed

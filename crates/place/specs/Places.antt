@@ -1,0 +1,59 @@
+-- Places: what stands at one, and fit places.
+use Prim.Native.Nat.{ℕ, _+_, _/_, _%_}
+use mathlib.Core.Bool.{Bool, true, false, not, _&&_, _||_, cond}
+use mathlib.Core.List.{List}
+use lib.Dec.{eqb, ltb}
+use Rattle.page.specs.Page.{bundlesIn, firstOf, secondOf}
+use Rattle.isa.specs.ListedEncodings.{opens32, decode16Of, decode32Of}
+use Rattle.isa.specs.declared.Instruction.{Instruction}
+use Rattle.isa.specs.declared.Instruction.the-variants.{Data, Memory, Cbz, Cbnz, Bcc, B, Service, Unlisted}
+use Rattle.service.specs.Services.{serviceOf, endingOf}
+use Rattle.service.specs.declared.Ending.{Ending}
+use Rattle.service.specs.declared.Ending.the-variants.{GoesOn, Exit, LastExit, Bad}
+use Rattle.count.specs.Count.{countPage}
+
+-- an even place is the first half of its bundle, an odd one the second
+abbrev pub isEven : ℕ → Bool
+isEven place = eqb (place % 2) 0
+
+-- of a bundle's halfwords: a 32-bit instruction stands in the first half alone, and nothing in the second half of one
+unfoldable pub standsIn : Bool → ℕ → ℕ → Instruction
+standsIn even first second = cond (opens32 first) (cond even (decode32Of first second) Unlisted) (decode16Of (cond even first second))
+
+-- past the page nothing stands
+unfoldable pub instructionAt : List ℕ → ℕ → Instruction
+instructionAt page place =
+    cond (ltb (place / 2) (bundlesIn page)) (standsIn (isEven place) (firstOf page (place / 2)) (secondOf page (place / 2))) Unlisted
+
+-- the place behind an instruction of 32 or 16 bits
+unfoldable pub following : List ℕ → ℕ → ℕ
+following page place = place + cond (opens32 (firstOf page (place / 2))) 2 1
+
+-- ---- fit places
+
+abbrev pub endsFlow : Ending → Bool
+endsFlow GoesOn = false
+endsFlow Exit = false
+endsFlow LastExit = true
+endsFlow Bad = false
+
+-- terminators are b and the services so marked
+abbrev pub terminator : List ℕ → Instruction → Bool
+terminator page (Data operation) = false
+terminator page (Memory access) = false
+terminator page (Cbz imm6 n) = false
+terminator page (Cbnz imm6 n) = false
+terminator page (Bcc condition imm8) = false
+terminator page (B imm11) = true
+terminator page (Service n) = endsFlow (endingOf (serviceOf page n))
+terminator page Unlisted = false
+
+-- of a bundle's halfwords: two 16-bit instructions whose first is no terminator
+unfoldable pub secondFits : List ℕ → ℕ → ℕ → Bool
+secondFits page first second = not (opens32 first) && not (opens32 second) && not (terminator page (decode16Of first))
+
+-- its bundle lies below the count; an odd place also needs such a bundle
+unfoldable pub fitPlace : List ℕ → ℕ → Bool
+fitPlace page place =
+    ltb (place / 2) (countPage page .count)
+    && (isEven place || secondFits page (firstOf page (place / 2)) (secondOf page (place / 2)))
