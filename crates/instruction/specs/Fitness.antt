@@ -1,0 +1,57 @@
+-- What demand 3 is about: fit records, fit places and RAM of its size; listed instructions and services at a place.
+use Prim.Native.Nat.{ℕ, _≤_}
+use mathlib.Core.Bool.{Bool, true, false}
+use mathlib.Core.List.{List}
+use mathlib.Core.Path.{_≡_}
+use lib.ListN.{length}
+use Rattle.isa.specs.declared.Instruction.the-variants as instruction
+use Rattle.bundle.specs.Flow.{listed}
+use Rattle.service.specs.Services.{serviceOf}
+use Rattle.service.specs.declared.Service.{Service}
+use Rattle.service.specs.declared.Service.the-variants.{Return, Call, TailCall, Syscall, TailSyscall, LongBranch, Preload, SetBase, StoreAtSp, LoadAtSp, LowerSp, DirectSyscall, Validate, Breakpoint, CallRegister, TailCallRegister, Bad}
+use Rattle.state.specs.Record.{fitRecord}
+use Rattle.state.specs.declared.Record.{Record}
+use Rattle.stop.specs.Stops.{Exit}
+use Rattle.place.specs.Places.{instructionAt, fitPlace}
+use Rattle.instruction.specs.Instructions.{exitOf}
+
+pub record Fit (page external : List ℕ) (r : Record) (ram : List ℕ) : Type 0 where
+  pub recordFits : fitRecord r (length external) ≡ true
+  pub placeFits : fitPlace page (r .place) ≡ true
+  pub ramFits : length ram ≡ 32768
+
+-- a place starts a listed instruction if it is fit and what stands there matches a listed encoding
+pub record Starts (page : List ℕ) (r : Record) : Type 0 where
+  pub placeFits : fitPlace page (r .place) ≡ true
+  pub isListed : listed (instructionAt page (r .place)) ≡ true
+
+-- the build paper's exit column
+abbrev pub exitColumn : Service → Bool
+exitColumn Return = true
+exitColumn Call = true
+exitColumn TailCall = true
+exitColumn Syscall = true
+exitColumn TailSyscall = true
+exitColumn LongBranch = true
+exitColumn Preload = false
+exitColumn (SetBase a) = false
+exitColumn (StoreAtSp t a) = false
+exitColumn (LoadAtSp t a) = false
+exitColumn (LowerSp words) = false
+exitColumn (DirectSyscall n) = true
+exitColumn (Validate n) = false
+exitColumn Breakpoint = true
+exitColumn (CallRegister n) = true
+exitColumn (TailCallRegister n) = true
+exitColumn Bad = false
+
+-- a service stands at the place that exits so: with its low byte and, for 01-7F, the page's literal
+pub record ServiceAt (page : List ℕ) (r : Record) (exit : Exit) : Type 0 where
+  pub low : ℕ
+  pub stands : instructionAt page (r .place) ≡ instruction.Service low
+  pub reports : exit ≡ exitOf page low
+  pub column : exitColumn (serviceOf page low) ≡ true
+
+-- the six faults
+abbrev pub Known : ℕ → Type 0
+Known n = (1 ≤ n) × (n ≤ 6)

@@ -1,0 +1,1 @@
+// No code: the definition of an instruction, and what it keeps.

@@ -1,3 +1,0 @@
-pub mod Instructions
-pub mod Runs
-pub mod Executed
