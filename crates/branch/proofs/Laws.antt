@@ -1,36 +1,20 @@
 -- Small integers, and the bundle at a byte. Assumes nothing.
 use mathlib.Core.Path.{_≡_, refl, ap, _∙_}
 use mathlib.Core.Bool.{true, false, cond, true≢false}
-use Prim.Native.Nat.{ℕ, zero, suc, _+_, _*_, _/_, _%_, _^_, _≤_, _<_}
-use native.Mathlib.Decide.{decLt}
+use Prim.Native.Nat.{ℕ, _+_, _*_, _/_, _%_, _^_, _<_}
 use native.Mathlib.Omega.{arith}
 use lib.Dec.{T, eqb}
-use lib.IntN.{ℤ, pos, negsuc, negℤ, natAbs, _+ℤ_, _*ℤ_}
+use lib.IntN.{ℤ, pos, negsuc, natAbs, _+ℤ_, _*ℤ_}
 use lib.Signed.{mag, ltZ, nonNeg}
 use borrow.Author.Tests.{ltb-true}
 use mir.Syntax.{w32, w64}
 use mir.Val.{toZ, ofZ, SFits, Fits}
 use mir.ValLaws.{toZ-pos}
-use Rattle.laws.specs.Differences.{less, more}
 use Rattle.laws.specs.Integers.{read}
 use Rattle.bits.specs.Integers.{SInt}
 use Rattle.branch.specs.Branches.{bundleAt}
+use Rattle.branch.specs.Theorems.{mag-double, mag-sum}
 use Rattle.branch.specs.declared.Target.the-variants.{Bad, At}
-
-mag-double : (z : ℤ) → mag (pos 2 *ℤ z) ≤ 2 * mag z + 1
-mag-double (pos n) = omega arith
-mag-double (negsuc n) = by (2 * suc n) (omega arith)
-  where
-    by : (m : ℕ) → m ≤ 2 * n + 2 → mag (negℤ (pos m)) ≤ 2 * n + 1
-    by zero h = omega arith
-    by (suc m) h = omega arith
-
-mag-sum : (a : ℕ) (z : ℤ) → mag (pos a +ℤ z) ≤ a + mag z
-mag-sum a (pos b) = omega arith
-mag-sum a (negsuc b) = elim (decLt a (suc b)) [
-  | yes h ↦ rw (less a (suc b) h) (omega arith)
-  | no h ↦ rw (more a (suc b) (omega arith)) (omega arith)
-]
 
 -- PC and an offset of 16 bits, and what the code reads of their sum
 module _ (pc : ℕ) (z : ℤ) (p : pc < 2 ^ 18) (h : mag z < 2 ^ 16) where

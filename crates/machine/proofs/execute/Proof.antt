@@ -1,0 +1,37 @@
+use mathlib.Core.Path.{refl}
+use borrow.Author.Tests.{le-ltb}
+use Rattle.machine.specs.Executed.{executedOf, ramOf}
+use Rattle.instruction.specs.Instructions.{effectOf, instructionOf}
+use mathlib.Core.Path.{refl}
+use borrow.Author.Tests.{le-ltb}
+use Rattle.machine.specs.Executed.{executedOf, ramOf}
+use Rattle.instruction.specs.Instructions.{effectOf, instructionOf}
+use Rattle.place.specs.Places.{instructionAt}
+use borrow.Author.Needs.{needs}
+use Rattle.machine.proofs.execute.Statement.{statement}
+use Rattle.machine.proofs.execute.Tie as tie
+
+cast-if1 : tie.Need-cast-if1
+cast-if1 c = search needs
+
+instruction-at-requires : tie.Need-instruction-at-requires
+instruction-at-requires c κs = search needs
+
+perform-requires : tie.Need-perform-requires
+perform-requires c κs = search needs
+
+same-length : tie.Need-same-length
+same-length c = search needs
+
+returns : tie.Need-returns
+unfolding instructionOf
+returns c = rw (← c .before .before .before .before .instruction-at .ensures) (c .before .before .perform .ensures)
+
+returns-2 : tie.Need-returns-2
+unfolding instructionOf instructionAt effectOf executedOf ramOf
+returns-2 c = rw (le-ltb _ _ (c .if1 .left)) (refl, refl)
+
+pub execute-spec : {M : Type 1} → statement M
+execute-spec =
+    tie.close
+    (tie.spec cast-if1 instruction-at-requires perform-requires same-length returns returns-2)

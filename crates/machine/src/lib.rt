@@ -1,0 +1,320 @@
+// One instruction, a step, and a run with a budget. The place moves here and nowhere else.
+ghost use mathlib.Core.Path.{_≡_};
+ghost use Prim.Native.Nat.{_<_, _≤_};
+ghost use lib.ListN.{length};
+ghost use Rattle.arm.specs.Conditions.{conditionHolds};
+ghost use Rattle.branch.specs.Theorems.{Near};
+ghost use Rattle.memory.specs.declared.Stored.the-variants.{Done};
+ghost use Rattle.compute.specs.Computed as computing;
+ghost use Rattle.plain.specs.PlainMachine.{plain};
+ghost use Rattle.place.specs.Places.{following};
+ghost use Rattle.instruction.specs.Instructions.{branchTo, branchIf, exitOf, served, effectOf, instructionOf};
+ghost use Rattle.machine.specs.Executed.{exitEnd, endedBy, Executes, ExecutesAny};
+ghost use Rattle.machine.specs.Runs.{runVerdict, seen, Gives};
+use branch::Target;
+use effects::Did;
+use isa::Instruction;
+use isa::Operation;
+use memory::Fault;
+use memory::Stored;
+use refusal::Refusal;
+use refusal::Verdict;
+use service::Ending;
+use state::Record;
+use stop::Stop;
+
+// How an instruction ended.
+enum End {
+    GoesOn,
+    // at a service: its low byte
+    Exits(u8),
+    // at a service by a literal: its low byte and the literal
+    ExitsBy(u8, u32),
+    Fails(Fault),
+    // nothing listed stands there
+    Mark,
+}
+
+struct Executed {
+    end: End,
+    after: Record,
+}
+
+// What a run gives.
+pub struct Answer {
+    pub stop: Stop,
+    pub steps: u32,
+    pub after: Record,
+}
+
+// ---- where an instruction goes
+
+// What was done ends so at a place, unless a fault was met.
+fn ended(d: Did, end: End, place: u16) -> Executed
+    ensures { λ x. ⌜ x ≡ endedBy end place (d .met) (d .after) ⌝ }
+{
+    let met = d.met;
+    let after = d.after;
+    match met {
+        Stored::Done => Executed {
+            end,
+            after: state::set_place(after, place),
+        },
+        Stored::Fails(fault) => Executed {
+            end: End::Fails(fault),
+            after,
+        },
+    }
+}
+
+// The place behind the instruction.
+fn next_place(page: &[u8], place: u16) -> u16
+    requires { ⌜ place < 128 ⌝ }
+    ensures { λ p. ⌜ p ≡ following (now (page .entry)) place ⌝ }
+{
+    place::next_place(page, place) as u16
+}
+
+// A branch that is taken.
+fn branch_to(r: Record, t: Target) -> Executed
+    requires { ⌜ Near t ⌝ }
+    ensures { λ x. ⌜ ExecutesAny r (λ m. branchTo r m t) x ⌝ }
+{
+    match t {
+        Target::Bad => Executed {
+            end: End::Mark,
+            after: r,
+        },
+        Target::At(b) => Executed {
+            end: End::GoesOn,
+            after: state::set_place(r, (2 * b) as u16),
+        },
+    }
+}
+
+// A branch that may be taken.
+fn branch_if(taken: bool, r: Record, next: u16, t: Target) -> Executed
+    requires { ⌜ Near t ⌝ }
+    ensures { λ x. ⌜ ExecutesAny r (λ m. branchIf taken r m next t) x ⌝ }
+{
+    if taken {
+        return branch_to(r, t);
+    }
+    Executed {
+        end: End::GoesOn,
+        after: state::set_place(r, next),
+    }
+}
+
+// ---- services
+
+// What an exit carries.
+fn exit_end(page: &[u8], n: u8) -> End
+    ensures { λ e. ⌜ e ≡ exitEnd (exitOf (now (page .entry)) n) ⌝ }
+{
+    if n < 0x01 {
+        return End::Exits(n);
+    }
+    if n <= 0x7F {
+        End::ExitsBy(n, page::word(page, n as u32))
+    } else {
+        End::Exits(n)
+    }
+}
+
+// The service with the low byte n. A terminator keeps its place, any other moves on.
+fn serve(page: &[u8], external: &[u8], n: u8, r: Record, ram: &mut [u8]) -> Executed
+    requires { ⌜ r .place < 128 ⌝ }
+    ensures { λ x. ⌜ Executes r (now (ram .entry)) (served (now (page .entry)) (now (external .entry)) r (now (ram .entry)) n) x (now (ram .exit)) ⌝ }
+{
+    let s = service::service_of(page, n);
+    let next = next_place(page, r.place);
+    match service::ending_of(s) {
+        Ending::GoesOn => ended(effects::serve(external, s, r, ram), End::GoesOn, next),
+        Ending::Exit => ended(effects::serve(external, s, r, ram), exit_end(page, n), next),
+        Ending::LastExit => ended(
+            effects::serve(external, s, r, ram),
+            exit_end(page, n),
+            r.place,
+        ),
+        Ending::Bad => Executed {
+            end: End::Mark,
+            after: r,
+        },
+    }
+}
+
+// ---- one instruction
+
+// What a data-processing instruction does.
+fn computed(operation: Operation, r: Record) -> Did
+    ensures { λ d. ⌜ d ≡ record { met = Done; after = computing.computed operation r } ⌝ }
+{
+    Did {
+        met: Stored::Done,
+        after: compute::compute(operation, r),
+    }
+}
+
+// The condition of a branch.
+fn holds(condition: u8, r: Record) -> bool
+    ensures { λ t. ⌜ t ≡ conditionHolds condition (r .flags) ⌝ }
+{
+    let flags = r.flags;
+    arm::condition_holds(condition, flags)
+}
+
+// The instruction i, which stands at the record's place.
+fn perform(page: &[u8], external: &[u8], i: Instruction, r: Record, ram: &mut [u8]) -> Executed
+    requires { ⌜ r .place < 128 ⌝ }
+    ensures { λ x. ⌜ Executes r (now (ram .entry)) (effectOf (now (page .entry)) (now (external .entry)) r (now (ram .entry)) i) x (now (ram .exit)) ⌝ }
+{
+    let here = r.place;
+    let next = next_place(page, here);
+    match i {
+        Instruction::Data(operation) => ended(computed(operation, r), End::GoesOn, next),
+        Instruction::Memory(access) => ended(
+            effects::perform(page, external, access, r, ram),
+            End::GoesOn,
+            next,
+        ),
+        Instruction::Cbz(imm6, n) => branch_if(
+            state::register_of(r, n) == 0,
+            r,
+            next,
+            branch::compare_target(here, imm6),
+        ),
+        Instruction::Cbnz(imm6, n) => branch_if(
+            state::register_of(r, n) != 0,
+            r,
+            next,
+            branch::compare_target(here, imm6),
+        ),
+        Instruction::Bcc(condition, imm8) => branch_if(
+            holds(condition, r),
+            r,
+            next,
+            branch::conditional_target(here, imm8),
+        ),
+        Instruction::B(imm11) => branch_to(r, branch::branch_target(here, imm11)),
+        Instruction::Service(n) => serve(page, external, n, r, ram),
+        Instruction::Unlisted => Executed {
+            end: End::Mark,
+            after: r,
+        },
+    }
+}
+
+// The instruction at the record's place; past the page there is none.
+fn execute(page: &[u8], external: &[u8], r: Record, ram: &mut [u8]) -> Executed
+    requires { ⌜ length (now page) ≤ 256 ⌝ }
+    ensures { λ x. ⌜ Executes r (now (ram .entry)) (instructionOf (now (page .entry)) (now (external .entry)) r (now (ram .entry))) x (now (ram .exit)) ⌝ }
+{
+    if ((r.place / 2) as usize) < page.len() / 4 {
+        perform(page, external, place::instruction_at(page, r.place), r, ram)
+    } else {
+        Executed {
+            end: End::Mark,
+            after: r,
+        }
+    }
+}
+
+// ---- runs
+
+// Until the budget is spent or an instruction doesn't go on.
+fn run_on(page: &[u8], external: &[u8], start: Record, ram: &mut [u8], budget: u32) -> Answer
+    requires { ⌜ length (now page) ≤ 256 ⌝ }
+    ensures { λ a. ⌜ seen a (now (ram .exit)) ≡ plain (instructionOf (now (page .entry)) (now (external .entry))) budget 0 start (now (ram .entry)) ⌝ }
+{
+    let mut r = start;
+    let mut steps: u32 = 0;
+    while steps < budget {
+        let x = execute(page, external, r, ram);
+        let end = x.end;
+        let after = x.after;
+        match end {
+            End::GoesOn => {
+                r = after;
+                steps += 1;
+            }
+            End::Exits(n) => {
+                return Answer {
+                    stop: Stop::Service(n),
+                    steps: steps + 1,
+                    after,
+                };
+            }
+            End::ExitsBy(n, literal) => {
+                return Answer {
+                    stop: Stop::ServiceBy(n, literal),
+                    steps: steps + 1,
+                    after,
+                };
+            }
+            End::Fails(fault) => {
+                return Answer {
+                    stop: Stop::Fault(fault),
+                    steps,
+                    after,
+                };
+            }
+            End::Mark => {
+                return Answer {
+                    stop: Stop::Mark,
+                    steps,
+                    after,
+                };
+            }
+        }
+    }
+    Answer {
+        stop: Stop::Budget,
+        steps,
+        after: r,
+    }
+}
+
+// Refusals 1 to 5.
+fn verdict_of(page: &[u8], ram: &[u8], external: &[u8], r: Record) -> Verdict
+    ensures { λ v. ⌜ v ≡ runVerdict (now (page .entry)) (now (external .entry)) r (now (ram .entry)) ⌝ }
+{
+    if !page::fits(page) {
+        return Verdict::Refused(Refusal::PageLength);
+    }
+    if ram.len() != 32768 {
+        return Verdict::Refused(Refusal::RamLength);
+    }
+    if !state::external_fits(external) {
+        return Verdict::Refused(Refusal::ExternalLength);
+    }
+    if !state::is_fit(r, external.len()) {
+        return Verdict::Refused(Refusal::UnfitRecord);
+    }
+    if !place::is_fit(page, r.place) {
+        return Verdict::Refused(Refusal::UnfitPlace);
+    }
+    Verdict::Accepted
+}
+
+// A run with a budget.
+pub fn run(page: &[u8], ram: &mut [u8], external: &[u8], r: Record, budget: u32) -> Answer
+    ensures { λ a. ⌜ Gives (now (page .entry)) (now (external .entry)) budget r (now (ram .entry)) a (now (ram .exit)) ⌝ }
+{
+    let verdict = verdict_of(page, &ram[..], external, r);
+    match verdict {
+        Verdict::Refused(why) => Answer {
+            stop: Stop::Refused(why),
+            steps: 0,
+            after: r,
+        },
+        Verdict::Accepted => run_on(page, external, r, ram, budget),
+    }
+}
+
+// A step is a run with budget 1.
+pub fn step(page: &[u8], ram: &mut [u8], external: &[u8], r: Record) -> Answer
+    ensures { λ a. ⌜ Gives (now (page .entry)) (now (external .entry)) 1 r (now (ram .entry)) a (now (ram .exit)) ⌝ }
+{
+    run(page, ram, external, r, 1)
+}
