@@ -7,7 +7,7 @@ use mathlib.Core.List.{List, [], _∷_}
 use lib.Dec.{ltb, eqb}
 use lib.ListN.{length}
 use borrow.Author.Tests.{ltb-true, ltb-false, eqb-true, eqb-false}
-use Rattle.prefix.specs.Prefix.{Successors, bad, goes, within}
+use Rattle.prefix.specs.Prefix.{Successors, bad, goes, AllBelow, within}
 use Rattle.prefix.specs.Theorems.{largest, largest-within}
 use Rattle.prefix.specs.declared.Reach.{Reach}
 use Rattle.prefix.specs.declared.Reach.the-variants.{Bad, Nothing, Largest}
@@ -96,3 +96,9 @@ pub insert-length : (s : ℕ) (ss : List ℕ) → length (insert s ss) ≤ suc (
 insert-length s [] = omega arith
 insert-length s (t ∷ ts) =
     by-order (λ l. length l ≤ suc (suc (length ts))) s t (λ l. omega arith) (λ e. omega arith) (λ l. omega (arith, insert-length s ts))
+
+pub insert-below : (m s : ℕ) (ss : List ℕ) → AllBelow m (insert s ss) → (s < m) × AllBelow m ss
+insert-below m s [] h = h
+insert-below m s (t ∷ ts) h =
+    by-order (λ l. AllBelow m l → (s < m) × AllBelow m (t ∷ ts)) s t (λ l h. h) (λ e h. (omega (arith, e, h .0), h))
+    (λ l h. let rest = insert-below m s ts (h .1) in (rest .0, (h .0, rest .1))) h

@@ -1,102 +1,94 @@
+use borrow.Author.Needs.{needs}
+use Prim.Native.Nat.{_-_, _≤_}
+use native.Mathlib.Nat.{sub-zero}
+use native.Mathlib.Omega.{arith}
+use lib.ListN.{length}
+use mathlib.Core.Path.{_≡_, refl, sym, _∙_}
+use Rattle.plain.specs.PlainMachine.{plain}
+use Rattle.plain.specs.Theorems.{spent}
+use Rattle.instruction.specs.Instructions.{instructionOf}
+use Rattle.machine.proofs.Laws.{turns}
 use Rattle.machine.proofs.run_on.Statement.{statement}
 use Rattle.machine.proofs.run_on.Tie as tie
-use Rattle.machine.proofs.run_on.Reads as reads
-use Rattle.machine.proofs.run_on.Lts as lts
-use Rattle.machine.proofs.execute.Reads as execute-reads
 
 abbrev Inv-loop : tie.InvT-loop
-Inv-loop page external ram₀ budget r₀ steps₀ ram r steps = ?
+Inv-loop page external ram₀ budget r₀ steps₀ ram r steps =
+    (plain (instructionOf page external) (budget - steps) steps r ram ≡ plain (instructionOf page external) budget 0 r₀ ram₀)
+    × (steps ≤ budget)
+    × (length ram ≡ length ram₀)
 
 abbrev μ-loop : tie.MeasureT-loop
-μ-loop page external ram₀ budget r₀ steps₀ ram r steps = ?
+μ-loop page external ram₀ budget r₀ steps₀ ram r steps = budget - steps
 
--- src/lib.rt:232:5
 loop-holds : tie.Need-loop-holds Inv-loop μ-loop
-loop-holds c = ?
+loop-holds c = (rw sub-zero, search needs, refl)
 
--- src/lib.rt:233:13
 execute-requires : tie.Need-execute-requires Inv-loop μ-loop
-execute-requires c κs = ?
+execute-requires c κs = search needs
 
--- src/lib.rt:238:17
 enum-told : tie.Need-enum-told Inv-loop μ-loop
-enum-told c = ?
+enum-told c = search needs
 
--- src/lib.rt:239:17
 add-steps : tie.Need-add-steps Inv-loop μ-loop
-add-steps c = ?
+add-steps c = omega arith
 
--- src/lib.rt:232:5
 loop-less : tie.Need-loop-less Inv-loop μ-loop
-loop-less c = ?
+loop-less c = omega arith
 
--- src/lib.rt:232:5
 loop-again : tie.Need-loop-again Inv-loop μ-loop
-loop-again c = ?
+loop-again c = (
+  turns _ _ _ _ _ _ _ _ _ (c .before .before .before .before .before .before .before .loop-test .taken) (c .before .before .before .before .before .execute .ensures) (c .enum-told .given .1) (c .before .before .before .before .before .before .before .before .loop .inv .0),
+  omega arith,
+  c .before .before .before .before .before .execute .kept .1 .1 .1 .0 ∙ c .before .before .before .before .before .before .before .before .loop .inv .2,
+)
 
--- src/lib.rt:241:24
 enum-known-end : tie.Need-enum-known-end Inv-loop μ-loop
-enum-known-end c = ?
+enum-known-end c = search needs
 
--- src/lib.rt:244:28
 add-t19 : tie.Need-add-t19 Inv-loop μ-loop
-add-t19 c = ?
+add-t19 c = omega arith
 
--- src/lib.rt:242:17
 same-length : tie.Need-same-length Inv-loop μ-loop
-same-length c = ?
+same-length c = omega arith
 
--- src/lib.rt:242:17
 returns : tie.Need-returns Inv-loop μ-loop
-returns c = ?
+returns c = turns _ _ _ _ _ _ _ _ _ (c .before .before .before .before .before .before .before .before .loop-test .taken) (c .before .before .before .before .before .before .execute .ensures) (c .before .end .given .1) (c .before .before .before .before .before .before .before .before .before .loop .inv .0)
 
--- src/lib.rt:248:26
 enum-known-end-2 : tie.Need-enum-known-end-2 Inv-loop μ-loop
-enum-known-end-2 c = ?
+enum-known-end-2 c = search needs
 
--- src/lib.rt:251:28
 add-t21 : tie.Need-add-t21 Inv-loop μ-loop
-add-t21 c = ?
+add-t21 c = omega arith
 
--- src/lib.rt:249:17
 same-length-2 : tie.Need-same-length-2 Inv-loop μ-loop
-same-length-2 c = ?
+same-length-2 c = omega arith
 
--- src/lib.rt:249:17
 returns-2 : tie.Need-returns-2 Inv-loop μ-loop
-returns-2 c = ?
+returns-2 c = turns _ _ _ _ _ _ _ _ _ (c .before .before .before .before .before .before .before .before .loop-test .taken) (c .before .before .before .before .before .before .execute .ensures) (c .before .end2 .given .1) (c .before .before .before .before .before .before .before .before .before .loop .inv .0)
 
--- src/lib.rt:255:24
 enum-known-end-3 : tie.Need-enum-known-end-3 Inv-loop μ-loop
-enum-known-end-3 c = ?
+enum-known-end-3 c = search needs
 
--- src/lib.rt:256:17
 same-length-3 : tie.Need-same-length-3 Inv-loop μ-loop
-same-length-3 c = ?
+same-length-3 c = omega arith
 
--- src/lib.rt:256:17
 returns-3 : tie.Need-returns-3 Inv-loop μ-loop
-returns-3 c = ?
+returns-3 c = turns _ _ _ _ _ _ _ _ _ (c .before .before .before .before .before .before .before .before .loop-test .taken) (c .before .before .before .before .before .before .execute .ensures) (c .before .end3 .given .1) (c .before .before .before .before .before .before .before .before .before .loop .inv .0)
 
--- src/lib.rt:264:27
 enum-told-2 : tie.Need-enum-told-2 Inv-loop μ-loop
-enum-told-2 c = ?
+enum-told-2 c = search needs
 
--- src/lib.rt:263:17
 same-length-4 : tie.Need-same-length-4 Inv-loop μ-loop
-same-length-4 c = ?
+same-length-4 c = omega arith
 
--- src/lib.rt:263:17
 returns-4 : tie.Need-returns-4 Inv-loop μ-loop
-returns-4 c = ?
+returns-4 c = turns _ _ _ _ _ _ _ _ _ (c .before .before .before .before .before .before .before .loop-test .taken) (c .before .before .before .before .before .execute .ensures) (c .enum-told2 .given .1) (c .before .before .before .before .before .before .before .before .loop .inv .0)
 
--- src/lib.rt:226:1
 same-length-5 : tie.Need-same-length-5 Inv-loop μ-loop
-same-length-5 c = ?
+same-length-5 c = omega arith
 
--- src/lib.rt:226:1
 returns-5 : tie.Need-returns-5 Inv-loop μ-loop
-returns-5 c = ?
+returns-5 c = sym (spent _ _ _ _ _ (omega arith)) ∙ c .before .loop .inv .0
 
 pub run-on-spec : {M : Type 1} → statement M
 run-on-spec =

@@ -65,12 +65,12 @@ same-length c = search needs
 returns : tie.Need-returns
 unfolding servedBy
 returns c = rw (
-      serving _ _ _ _ _ _ _ (c .before .before .before .before .before .before .before .before .before .service-of .ensures) (c .before .before .before .before .before .before .before .ending-of .ensures),
-      c .before .before .before .before .before .enum-told .given .1,
-      c .ended .ensures,
-      c .before .before .before .serve .ensures .0,
-      c .before .before .before .before .before .before .before .before .next-place .ensures,
-    )
+  serving _ _ _ _ _ _ _ (c .before .before .before .before .before .before .before .before .before .service-of .ensures) (c .before .before .before .before .before .before .before .ending-of .ensures),
+  c .before .before .before .before .before .enum-told .given .1,
+  c .ended .ensures,
+  c .before .before .before .serve .ensures .0,
+  c .before .before .before .before .before .before .before .before .next-place .ensures,
+)
     (on-executed _ _ _, c .before .before .before .serve .ensures .1 ∙ on-ram _ _ _)
 
 same-length-2 : tie.Need-same-length-2
@@ -79,13 +79,13 @@ same-length-2 c = search needs
 returns-2 : tie.Need-returns-2
 unfolding servedBy
 returns-2 c = rw (
-      serving _ _ _ _ _ _ _ (c .before .before .before .before .before .before .before .before .before .before .service-of .ensures) (c .before .before .before .before .before .before .before .before .ending-of .ensures),
-      c .before .before .before .before .before .before .enum-told2 .given .1,
-      c .ended2 .ensures,
-      c .before .exit-end .ensures,
-      c .before .before .before .before .serve2 .ensures .0,
-      c .before .before .before .before .before .before .before .before .before .next-place .ensures,
-    )
+  serving _ _ _ _ _ _ _ (c .before .before .before .before .before .before .before .before .before .before .service-of .ensures) (c .before .before .before .before .before .before .before .before .ending-of .ensures),
+  c .before .before .before .before .before .before .enum-told2 .given .1,
+  c .ended2 .ensures,
+  c .before .exit-end .ensures,
+  c .before .before .before .before .serve2 .ensures .0,
+  c .before .before .before .before .before .before .before .before .before .next-place .ensures,
+)
     (exit-executed _ _ _ _, c .before .before .before .before .serve2 .ensures .1 ∙ exit-ram _ _ _ _)
 
 same-length-3 : tie.Need-same-length-3
@@ -94,12 +94,12 @@ same-length-3 c = search needs
 returns-3 : tie.Need-returns-3
 unfolding servedBy
 returns-3 c = rw (
-      serving _ _ _ _ _ _ _ (c .before .before .before .before .before .before .before .before .before .before .service-of .ensures) (c .before .before .before .before .before .before .before .before .ending-of .ensures),
-      c .before .before .before .before .before .before .enum-told3 .given .1,
-      c .ended3 .ensures,
-      c .before .exit-end2 .ensures,
-      c .before .before .before .before .serve3 .ensures .0,
-    )
+  serving _ _ _ _ _ _ _ (c .before .before .before .before .before .before .before .before .before .before .service-of .ensures) (c .before .before .before .before .before .before .before .before .ending-of .ensures),
+  c .before .before .before .before .before .before .enum-told3 .given .1,
+  c .ended3 .ensures,
+  c .before .exit-end2 .ensures,
+  c .before .before .before .before .serve3 .ensures .0,
+)
     (exit-executed _ _ _ _, c .before .before .before .before .serve3 .ensures .1 ∙ exit-ram _ _ _ _)
 
 returns-4 : tie.Need-returns-4
