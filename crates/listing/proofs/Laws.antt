@@ -2,14 +2,12 @@
 use mathlib.Core.Path.{_≡_, refl, sym, ap, _∙_}
 use mathlib.Core.Bool.{Bool, true, false, not, cond}
 use mathlib.Core.List.{List, _++_, append-assoc, append-nil}
-use Prim.Native.Nat.{ℕ, zero, suc, _+_, _-_, _≤_, _<_}
+use Prim.Native.Nat.{ℕ, zero, suc, _+_, _<_}
 use native.Mathlib.Nat.{add-zero}
 use native.Mathlib.Numerals.{add-one}
 use native.Mathlib.Omega.{arith}
 use lib.Dec.{ltb}
-use lib.ListN.{length, take, drop, length-append, length-drop}
-use lib.Seq.{take-at, length-take-le}
-use borrow.Author.Tests.{le-leb}
+use lib.ListN.{take}
 use Rattle.refusal.specs.declared.Verdict.{Verdict}
 use Rattle.refusal.specs.declared.Verdict.the-variants.{Accepted, Refused}
 use Rattle.refusal.specs.declared.Refusal.{Refusal}
@@ -20,61 +18,9 @@ use Rattle.bundle.specs.Theorems.{read-accepted}
 use Rattle.bundle.specs.declared.Read.{Read}
 use Rattle.count.specs.declared.Counted.{Counted}
 use Rattle.count.specs.Count.{countOf, countPage}
-use Rattle.report.specs.declared.Written.{Written}
-use Rattle.report.specs.declared.Written.the-variants.{Bytes, NoRoom}
 use Rattle.report.specs.ListerLines.{headText, bundleText, refusedText}
-use Rattle.report.specs.Room.{writtenOf, placed}
+use Rattle.report.specs.Text.{Extended}
 use Rattle.listing.specs.Listing.{lineOf, bundleLines, listingBy, listingOf}
-use Rattle.listing.specs.Text.{Extended}
-
--- ---- a line in room that is enough for it
-
--- what is answered, and the room afterwards
-abbrev pub Put : List ℕ → List ℕ → Written → List ℕ → Type 0
-Put line room written after = (written ≡ writtenOf line (length room)) × (after ≡ placed line room)
-
-module _ (line room : List ℕ) (h : length line ≤ length room) where
-  fits : {written : Written} {after : List ℕ} → Put line room written after
-      → (written ≡ Bytes (length line)) × (after ≡ line ++ drop (length line) room)
-  unfolding writtenOf placed
-  fits p = rw (le-leb (length line) (length room) h) at p
-
-  pub bytes : {written : Written} {after : List ℕ} {n : ℕ} → Put line room written after → written ≡ Bytes n → n ≡ length line
-  bytes p e = let f = fits p .0 in cc
-
-  pub no-refusal : {written : Written} {after : List ℕ} → Put line room written after → written ≡ NoRoom → ⊥
-  no-refusal p e = let f = fits p .0 in let z : _≡_ {A = ℕ} 0 1 = cc in omega arith
-
--- the first line
-pub begun : {written : Written} {after : List ℕ} {n : ℕ} (line text : List ℕ) → length line ≤ length text
-    → Put line text written after → written ≡ Bytes n → Extended text 0 line n after
-begun line text h p e =
-    let m = bytes line text h p e in
-    record {
-      text-is = rw (m, fits line text h p .1) (take-at line (drop (length line) text) (length line) refl);
-      end-is = omega arith;
-    }
-
--- what lies behind the first bytes
-abbrev pub behind : ℕ → List ℕ → List ℕ
-behind at text = take (length text - at) (drop at text)
-
-pub behind-length : (at : ℕ) (text : List ℕ) → length (behind at text) ≡ length text - at
-behind-length at text = length-take-le (length text - at) (drop at text) (omega (arith, length-drop at text))
-
--- a line put there
-pub extended : {written : Written} {part : List ℕ} {n : ℕ} (line text : List ℕ) (at : ℕ) (rest : List ℕ) → at + length line ≤ length text
-    → Put line (behind at text) written part → written ≡ Bytes n → Extended text at line (at + n) (take at text ++ (part ++ rest))
-extended line text at rest h p e =
-    let room = behind at text in
-    let k : length line ≤ length room = omega (arith, behind-length at text) in
-    let m = bytes line room k p e in
-    let l : length (take at text ++ line) ≡ at + length line = rw (length-append, length-take-le at text (omega arith)) in
-    record {
-      text-is = rw (m, fits line room k p .1, append-assoc line, ← append-assoc (take at text) line)
-          (take-at (take at text ++ line) (drop (length line) room ++ rest) (at + length line) l);
-      end-is = rw m;
-    }
 
 -- ---- the lines of the bundles passed
 

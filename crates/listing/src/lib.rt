@@ -10,8 +10,8 @@ ghost use Rattle.page.specs.Page.{pageFits, bundlesIn};
 ghost use Rattle.count.specs.Count.{countOf};
 ghost use Rattle.report.specs.ListerLines.{headText};
 ghost use Rattle.report.specs.Room.{writtenOf, placed};
+ghost use Rattle.report.specs.Text.{Extended};
 ghost use Rattle.listing.specs.Listing.{lineOf, bundleLines, listingOf};
-ghost use Rattle.listing.specs.Text.{Extended};
 
 // A line has at most 36 bytes. Each of the next two puts one into the text, and answers where it ends.
 
@@ -19,11 +19,7 @@ fn put_head(text: &mut [u8], bundles: u32, count: u32) -> usize
     requires { ⌜ 36 ≤ length (now text) ⌝ }
     ensures { λ r. ⌜ Extended (now (text .entry)) 0 (headText bundles count) r (now (text .exit)) ⌝ }
 {
-    let written = report::head_line(text, bundles, count);
-    match written {
-        Written::Bytes(n) => n,
-        Written::NoRoom => 0,
-    }
+    report::bytes_written(report::head_line(text, bundles, count))
 }
 
 // Bundle k, behind the first bytes of the text.
@@ -37,10 +33,7 @@ fn put_bundle(page: &[u8], text: &mut [u8], at: usize, k: u32, count: u32) -> us
     let read = bundle::read_bundle(page, k);
     let reach = read.reach;
     let written = report::bundle_line(&mut text[at..], k, first, second, k < count, reach);
-    match written {
-        Written::Bytes(n) => at + n,
-        Written::NoRoom => at,
-    }
+    at + report::bytes_written(written)
 }
 
 // A page that is accepted has at most 64 bundles, so 65 lines: its listing, and where it ends.

@@ -7,7 +7,7 @@ use Rattle.prefix.specs.declared.Reach.the-variants.{Bad, Nothing, Largest}
 use Rattle.refusal.specs.declared.Refusal.{Refusal}
 use Rattle.refusal.specs.Refusals.{numberOf}
 use Rattle.report.specs.Digits.{hex, decimal}
-use Rattle.report.specs.Words.{space, newline}
+use Rattle.report.specs.Words.{space, newline, refusedLine}
 
 -- "bundles "
 abbrev bundlesWord : List ℕ
@@ -38,10 +38,6 @@ bundleText k first second inside reach =
     decimal k ++ space ++ hex 4 first ++ space ++ hex 4 second ++ space
     ++ insideText inside ++ space ++ reachText reach ++ newline
 
--- "refused "
-abbrev refusedWord : List ℕ
-refusedWord = 114 ∷ 101 ∷ 102 ∷ 117 ∷ 115 ∷ 101 ∷ 100 ∷ 32 ∷ []
-
--- a refusal, by its number
+-- a page that is refused
 unfoldable pub refusedText : Refusal → List ℕ
-refusedText refusal = refusedWord ++ decimal (numberOf refusal) ++ newline
+refusedText refusal = refusedLine (numberOf refusal)

@@ -1,14 +1,20 @@
 // The lines that the programs print, made as bytes in lent room.
+use arm::Flags;
 use prefix::Reach;
 use refusal::Refusal;
+use stop::Stop;
 ghost use mathlib.Core.Path.{_≡_};
-ghost use mathlib.Core.List.{[], _∷_};
+ghost use mathlib.Core.List.{[], _∷_, _++_};
 ghost use Prim.Native.Nat.{_+_, _≤_, _<_};
 ghost use lib.ListN.{length};
+ghost use Rattle.stop.specs.Stops.{reasonOf};
 ghost use Rattle.report.specs.Digits.{digit, hex, decimal};
 ghost use Rattle.report.specs.Line.{textOf, Appended};
 ghost use Rattle.report.specs.Room.{writtenOf, placed, bytesWritten};
+ghost use Rattle.report.specs.Words.{newline};
 ghost use Rattle.report.specs.ListerLines.{headText, bundleText, insideText, reachText, refusedText};
+ghost use Rattle.report.specs.RunnerLines.{serviceField, stopText, stepsText, placeText};
+ghost use Rattle.report.specs.RunnerLines.{wordsText, regsText, flagText, flagsText};
 
 // How many bytes were written at the start of the room, or that it was too small.
 pub enum Written {
@@ -128,6 +134,16 @@ fn emit(l: Line, room: &mut [u8]) -> Written
     place(&bytes[..n], room)
 }
 
+// A word and a number are a line.
+fn number_line(room: &mut [u8], word: &[u8], x: u32) -> Written
+    requires { ⌜ length (now word) ≤ 16 ⌝ }
+    ensures { λ r. ⌜ (r ≡ writtenOf (now (word .entry) ++ decimal x ++ newline) (length (now (room .entry))))
+        × (now (room .exit) ≡ placed (now (word .entry) ++ decimal x ++ newline) (now (room .entry))) ⌝ }
+{
+    let l = put_decimal(put(fresh(), word), x);
+    emit(push(l, b'\n'), room)
+}
+
 // The lister's lines.
 
 // How many bundles a page has, and its count.
@@ -189,7 +205,89 @@ pub fn refused_line(room: &mut [u8], refusal: Refusal) -> Written
     ensures { λ r. ⌜ (r ≡ writtenOf (refusedText refusal) (length (now (room .entry))))
         × (now (room .exit) ≡ placed (refusedText refusal) (now (room .entry))) ⌝ }
 {
-    let number = refusal::number(refusal) as u32;
-    let l = put_decimal(put(fresh(), b"refused "), number);
+    number_line(room, b"refused ", refusal::number(refusal) as u32)
+}
+
+// The runner's lines.
+
+// A service, by its low byte.
+fn put_service(l: Line, n: u8) -> Line
+    requires { ⌜ l .len + 15 ≤ 96 ⌝ }
+    ensures { λ r. ⌜ Appended l (serviceField n) r ⌝ }
+{
+    put_hex(put(l, b"stop service "), 2, n as u32)
+}
+
+// Why a run stopped, or the refusal's line.
+pub fn stop_line(room: &mut [u8], stop: Stop) -> Written
+    ensures { λ r. ⌜ (r ≡ writtenOf (stopText (reasonOf stop)) (length (now (room .entry))))
+        × (now (room .exit) ≡ placed (stopText (reasonOf stop)) (now (room .entry))) ⌝ }
+{
+    match stop {
+        Stop::Budget => place(b"stop budget\n", room),
+        Stop::Service(n) => emit(push(put_service(fresh(), n), b'\n'), room),
+        Stop::ServiceBy(n, literal) => {
+            let l = push(put_service(fresh(), n), b' ');
+            emit(push(put_hex(l, 8, literal), b'\n'), room)
+        }
+        Stop::Fault(fault) => number_line(room, b"stop fault ", memory::fault_number(fault) as u32),
+        Stop::Mark => place(b"stop mark\n", room),
+        Stop::Refused(refusal) => refused_line(room, refusal),
+    }
+}
+
+// How many steps were counted.
+pub fn steps_line(room: &mut [u8], steps: u32) -> Written
+    ensures { λ r. ⌜ (r ≡ writtenOf (stepsText steps) (length (now (room .entry))))
+        × (now (room .exit) ≡ placed (stepsText steps) (now (room .entry))) ⌝ }
+{
+    number_line(room, b"steps ", steps)
+}
+
+// The place, a halfword number.
+pub fn place_line(room: &mut [u8], place: u16) -> Written
+    ensures { λ r. ⌜ (r ≡ writtenOf (placeText place) (length (now (room .entry))))
+        × (now (room .exit) ≡ placed (placeText place) (now (room .entry))) ⌝ }
+{
+    number_line(room, b"place ", place as u32)
+}
+
+// Eight words, each behind a space.
+fn put_words(l: Line, words: [u32; 8]) -> Line
+    requires { ⌜ l .len + 72 ≤ 96 ⌝ }
+    ensures { λ r. ⌜ Appended l (wordsText words) r ⌝ }
+{
+    let mut longer = l;
+    let mut i = 0;
+    while i < 8 {
+        longer = put_hex(push(longer, b' '), 8, words[i]);
+        i += 1;
+    }
+    longer
+}
+
+// The registers.
+pub fn regs_line(room: &mut [u8], regs: [u32; 8]) -> Written
+    ensures { λ r. ⌜ (r ≡ writtenOf (regsText regs) (length (now (room .entry))))
+        × (now (room .exit) ≡ placed (regsText regs) (now (room .entry))) ⌝ }
+{
+    let l = put_words(put(fresh(), b"regs"), regs);
+    emit(push(l, b'\n'), room)
+}
+
+fn put_flag(l: Line, flag: bool) -> Line
+    requires { ⌜ l .len < 96 ⌝ }
+    ensures { λ r. ⌜ Appended l (flagText flag) r ⌝ }
+{
+    if flag { push(l, b'1') } else { push(l, b'0') }
+}
+
+// The flags N, Z, C, V.
+pub fn flags_line(room: &mut [u8], flags: Flags) -> Written
+    ensures { λ r. ⌜ (r ≡ writtenOf (flagsText flags) (length (now (room .entry))))
+        × (now (room .exit) ≡ placed (flagsText flags) (now (room .entry))) ⌝ }
+{
+    let l = put_flag(put_flag(put(fresh(), b"flags "), flags.n), flags.z);
+    let l = put_flag(put_flag(l, flags.c), flags.v);
     emit(push(l, b'\n'), room)
 }

@@ -4,9 +4,10 @@ use native.Mathlib.Omega.{arith}
 use lib.ListN.{length}
 use borrow.Author.Needs.{needs}
 use Rattle.page.specs.Theorems.{fitting}
+use Rattle.report.proofs.Text.{Put, behind, end-behind, extended}
 use Rattle.listing.specs.Listing.{lineOf}
 use Rattle.listing.proofs.Lengths.{line-length}
-use Rattle.listing.proofs.Laws.{Put, bytes, no-refusal, behind, behind-length, extended, line-is}
+use Rattle.listing.proofs.Laws.{line-is}
 use Rattle.listing.proofs.put_bundle.Statement.{statement}
 use Rattle.listing.proofs.put_bundle.Tie as tie
 
@@ -16,11 +17,9 @@ start c = c .before .before .before .before .before .before .before
 abbrev line : tie.After-bundle-line → List ℕ
 line c = lineOf (start c .args .page .now) (start c .args .k)
 
-abbrev room : tie.After-bundle-line → List ℕ
-room c = behind (start c .args .at) (start c .args .text .now)
-
 -- the line is the bundle's
-put : (c : tie.After-bundle-line) → Put (line c) (room c) (c .bundle-line .result) (c .bundle-line .last .0)
+put : (c : tie.After-bundle-line)
+    → Put (line c) (behind (start c .args .at) (start c .args .text .now)) (c .bundle-line .result) (c .bundle-line .last .0)
 put c =
     let args = start c .args in
     let pre = start c .pre in
@@ -32,9 +31,6 @@ put c =
 -- it is short enough
 short : (c : tie.After-bundle-line) → length (line c) ≤ 36
 short c = line-length _ _ _ _ _
-
-enough : (c : tie.After-bundle-line) → length (line c) ≤ length (room c)
-enough c = omega (arith, short c, behind-length (start c .args .at) (start c .args .text .now))
 
 mul-halfword : tie.Need-mul-halfword
 mul-halfword c = omega (arith, fitting (c .before .before .args .page .now) (c .before .before .pre .0 .0))
@@ -66,32 +62,23 @@ part-bundle-line-end c = search needs
 bundle-line-requires : tie.Need-bundle-line-requires
 bundle-line-requires c κs = search needs
 
-enum-known-written : tie.Need-enum-known-written
-enum-known-written c = search needs
+bytes-written-requires : tie.Need-bytes-written-requires
+bytes-written-requires c κs = search needs
 
 add-result : tie.Need-add-result
 add-result c =
-    let called = c .before .before .before .before .before in
-    omega (arith, bytes (line called) (room called) (enough called) (put called) (c .before .written .given .1), short called)
-
-enum-told : tie.Need-enum-told
-enum-told c = search needs
+    let called = c .before .before .before in
+    let begin = start called in
+    let text = begin .args .text .now in
+    omega (arith, begin, end-behind _ text _ 36 (short called) (begin .pre .1 .1) (put called) (c .bytes-written .ensures))
 
 same-length : tie.Need-same-length
 same-length c = search needs
 
 returns : tie.Need-returns
 returns c =
-    let called = c .before .before .before .before .before in
-    extended (line called) (start called .args .text .now) (start called .args .at) _ (omega (arith, short called)) (put called) (c .before .written .given .1)
-
-same-length-2 : tie.Need-same-length-2
-same-length-2 c = search needs
-
-returns-2 : tie.Need-returns-2
-returns-2 c =
-    let called = c .before .before .before .before in
-    absurd (no-refusal (line called) (room called) (enough called) (put called) (c .enum-told .given .1))
+    let called = c .before .before .before in
+    extended _ _ _ 36 (short called) (start called .pre .1 .1) _ (put called) (c .bytes-written .ensures)
 
 pub put-bundle-spec : {M : Type 1} → statement M
 put-bundle-spec =
@@ -107,10 +94,7 @@ put-bundle-spec =
     part-bundle-line-start
     part-bundle-line-end
     bundle-line-requires
-    enum-known-written
+    bytes-written-requires
     add-result
-    enum-told
     same-length
-    returns
-    same-length-2
-    returns-2)
+    returns)

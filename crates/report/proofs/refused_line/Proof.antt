@@ -1,56 +1,34 @@
 use borrow.Author.Needs.{needs}
 use Rattle.report.specs.ListerLines.{refusedText}
-use Rattle.report.proofs.Lines.{_then_, whole, grows}
 use Rattle.report.proofs.refused_line.Statement.{statement}
 use Rattle.report.proofs.refused_line.Tie as tie
+
+slice-aggregate-number-line : tie.Need-slice-aggregate-number-line
+slice-aggregate-number-line c = search needs
 
 number-requires : tie.Need-number-requires
 number-requires c κs = search needs
 
-cast-number : tie.Need-cast-number
-cast-number c = search needs
+cast-number-line : tie.Need-cast-number-line
+cast-number-line c = search needs
 
-fresh-requires : tie.Need-fresh-requires
-fresh-requires c κs = search needs
-
-slice-aggregate-put : tie.Need-slice-aggregate-put
-slice-aggregate-put c = search needs
-
-put-requires : tie.Need-put-requires
-put-requires c κs = search needs
-
-put-decimal-requires : tie.Need-put-decimal-requires
-put-decimal-requires c κs = omega grows
-
-push-requires : tie.Need-push-requires
-push-requires c κs = omega grows
-
-emit-requires : tie.Need-emit-requires
-emit-requires c κs = omega grows
+number-line-requires : tie.Need-number-line-requires
+number-line-requires c κs = search needs
 
 same-length : tie.Need-same-length
 same-length c = search needs
 
 returns : tie.Need-returns
 unfolding refusedText
-returns c =
-    let line = c .before .before .before .before in
-    let named = line .before .before in
-    let text = named .put .ensures then line .before .put-decimal .ensures then line .push .ensures in
-    rw (← named .before .before .before .number .ensures)
-    (rw (whole (named .before .before .fresh .ensures) text) at (c .before .before .emit .ensures))
+returns c = rw (← c .before .before .before .number .ensures) (c .before .before .number-line .ensures)
 
 pub refused-line-spec : {M : Type 1} → statement M
 refused-line-spec =
     tie.close
     (tie.spec
+    slice-aggregate-number-line
     number-requires
-    cast-number
-    fresh-requires
-    slice-aggregate-put
-    put-requires
-    put-decimal-requires
-    push-requires
-    emit-requires
+    cast-number-line
+    number-line-requires
     same-length
     returns)

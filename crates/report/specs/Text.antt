@@ -1,4 +1,4 @@
--- The listing while it is made: the first bytes of a buffer.
+-- A text of several lines while it is made: the first bytes of a buffer.
 use Prim.Native.Nat.{ℕ, _+_}
 use mathlib.Core.Path.{_≡_}
 use mathlib.Core.List.{List, _++_}

@@ -1,0 +1,22 @@
+-- The runner's whole output.
+use Prim.Native.Nat.{ℕ}
+use mathlib.Core.Bool.{Bool, true, false, cond}
+use mathlib.Core.List.{List, _++_}
+use Rattle.state.specs.declared.Record.{Record}
+use Rattle.stop.specs.Stops.{Reason, budget, service, fault, mark, refused}
+use Rattle.report.specs.RunnerLines.{stopText, stepsText, placeText, regsText, flagsText}
+
+abbrev pub isRefusal : Reason → Bool
+isRefusal budget = false
+isRefusal (service exit) = false
+isRefusal (fault n) = false
+isRefusal mark = false
+isRefusal (refused n) = true
+
+-- the five lines of a run
+abbrev pub runLines : Reason → ℕ → Record → List ℕ
+runLines reason steps r = stopText reason ++ stepsText steps ++ placeText (r .place) ++ regsText (r .regs) ++ flagsText (r .flags)
+
+-- a refusal is its one line
+unfoldable pub transcriptOf : Reason → ℕ → Record → List ℕ
+transcriptOf reason steps r = cond (isRefusal reason) (stopText reason) (runLines reason steps r)

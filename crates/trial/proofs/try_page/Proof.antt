@@ -1,0 +1,53 @@
+use Prim.Native.Nat.{ℕ}
+use mathlib.Core.List.{List}
+use mathlib.Core.Path.{_≡_, sym, ap}
+use Rattle.stop.specs.Stops.{reasonOf}
+use Rattle.plain.specs.PlainMachine.{Result}
+use Rattle.machine.specs.Runs.{seen}
+use Rattle.machine.specs.declared.Answer.{Answer}
+use Rattle.transcript.specs.Transcript.{transcriptOf}
+use Rattle.trial.specs.Trial.{trialRun, trialOf}
+use borrow.Author.Needs.{needs}
+use Rattle.trial.proofs.try_page.Statement.{statement}
+use Rattle.trial.proofs.try_page.Tie as tie
+
+slice-aggregate-run : tie.Need-slice-aggregate-run
+slice-aggregate-run c = search needs
+
+slice-aggregate-run-2 : tie.Need-slice-aggregate-run-2
+slice-aggregate-run-2 c = search needs
+
+fresh-record-requires : tie.Need-fresh-record-requires
+fresh-record-requires c κs = search needs
+
+run-requires : tie.Need-run-requires
+run-requires c κs = search needs
+
+write-requires : tie.Need-write-requires
+write-requires c κs = search needs
+
+same-length : tie.Need-same-length
+same-length c = search needs
+
+-- what a run gives is what is printed
+text-is : (page : List ℕ) (a : Answer) (ram : List ℕ) → seen a ram ≡ trialRun page
+    → trialOf page ≡ transcriptOf (reasonOf (a .stop)) (a .steps) (a .after)
+unfolding trialOf
+text-is page a ram e = ap (λ (x : Result). transcriptOf (x .stop) (x .steps) (x .rec)) (sym e)
+
+returns : tie.Need-returns
+returns c = 
+    rw (text-is (c .before .before .before .before .before .before .before .before .before .before .before .before .args .page .now) (c .before .before .before .before .before .before .run .result) _ (rw (c .before .before .before .before .before .before .before .fresh-record .ensures) at (c .before .before .before .before .before .before .run .ensures)))
+    (c .before .before .write .ensures)
+
+pub try-page-spec : {M : Type 1} → statement M
+try-page-spec =
+    tie.close
+    (tie.spec
+    slice-aggregate-run
+    slice-aggregate-run-2
+    fresh-record-requires
+    run-requires
+    write-requires
+    same-length
+    returns)
