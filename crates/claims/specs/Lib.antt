@@ -1,3 +1,5 @@
 pub mod Pages
 pub mod Demand2
 pub mod Examples
+pub mod Demand3
+pub mod Contracts
