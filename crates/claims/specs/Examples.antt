@@ -1,6 +1,7 @@
 -- The build paper's starred examples, together under one claim, by computation. Assumes nothing.
 use Prim.Native.Nat.{ℕ}
 use mathlib.Core.Path.{_≡_, refl}
+use mathlib.Core.Bool.{true, false}
 use mathlib.Core.List.{List, [], _∷_}
 use Rattle.prefix.specs.Prefix.{allWithin, greatestClosed}
 use Rattle.isa.specs.Patterns.{matches}
@@ -11,11 +12,30 @@ use Rattle.branch.specs.Branches.{bundleAt}
 use Rattle.bundle.specs.Flow.{flowOf}
 use Rattle.bundle.specs.Successors.{successorsOf}
 use Rattle.count.specs.Count.{countPage}
+use Rattle.state.specs.Record.{freshRecord, withRegister, withFlags, withPlace}
+use Rattle.state.specs.declared.Record.{Record}
+use Rattle.plain.specs.PlainMachine.{goesOn}
+use Rattle.place.specs.Places.{standsIn, instructionAt, following}
+use Rattle.instruction.specs.Instructions.{goOnAt, branchTo, branchIf, effectOf, instructionOf}
 use Rattle.claims.specs.Pages.{pageOf}
 
 -- the count that the code answers for a page of these halfwords
 abbrev pub counts : List ℕ → ℕ
 counts halfwords = countPage (pageOf halfwords) .count
+
+-- 2801 DB01: cmp r0, #1 and blt to bundle 2
+abbrev pub comparePage : List ℕ
+comparePage = pageOf (0x2801 ∷ 0xDB01 ∷ 0xDF00 ∷ 0xBF00 ∷ 0xDF00 ∷ 0xBF00 ∷ [])
+
+-- r0 = 0x80000000; after the compare; after the branch
+abbrev pub compared : Record
+compared = withRegister freshRecord 0 0x80000000
+
+abbrev pub flagsSet : Record
+flagsSet = withPlace (withFlags compared (record { n = false; z = false; c = true; v = true })) 1
+
+abbrev pub branched : Record
+branched = withPlace flagsSet 4
 
 pub record Starred : Type 0 where
   pub empty : counts [] ≡ 0
@@ -30,9 +50,12 @@ pub record Starred : Type 0 where
   pub store-by-r9 : counts (0xF8C9 ∷ 0x0000 ∷ 0x2001 ∷ 0xDF00 ∷ []) ≡ 2
   pub store-by-r8 : counts (0xF8C8 ∷ 0x0000 ∷ 0x2001 ∷ 0xDF00 ∷ []) ≡ 0
   pub tail-call : counts (0xBF00 ∷ 0xDF01 ∷ 0x0001 ∷ 0x0000 ∷ []) ≡ 1
+  -- cmp of 0x80000000 with 1: N0 Z0 C1 V1; BLT taken
+  pub compare : (ram : List ℕ) → instructionOf comparePage [] compared ram ≡ goesOn flagsSet ram
+  pub blt-taken : (ram : List ℕ) → instructionOf comparePage [] flagsSet ram ≡ goesOn branched ram
 
 pub starred : Starred
-unfolding greatestClosed allWithin successorsOf flowOf bundleAt serviceOf byLiteral literalOf callOf syscallOf addressOperationOf halfwordAt wordAt pageFits opens32 decodeBy matches
+unfolding greatestClosed allWithin successorsOf flowOf bundleAt serviceOf byLiteral literalOf callOf syscallOf addressOperationOf halfwordAt wordAt pageFits opens32 decodeBy matches instructionOf instructionAt standsIn following effectOf goOnAt branchIf branchTo withRegister withFlags withPlace
 starred = record {
   empty = refl;
   returns = refl;
@@ -45,4 +68,6 @@ starred = record {
   store-by-r9 = refl;
   store-by-r8 = refl;
   tail-call = refl;
+  compare = λ ram. refl;
+  blt-taken = λ ram. refl;
 }

@@ -1,36 +1,14 @@
--- A run with a budget, and a step: refusals, and the contract.
+-- A run with a budget, and a step: its definition and its contract.
 use Prim.Native.Nat.{ℕ}
-use mathlib.Core.Bool.{not}
-use mathlib.Core.List.{List, [], _∷_}
+use mathlib.Core.List.{List}
 use mathlib.Core.Path.{_≡_}
-use lib.Dec.{eqb}
-use lib.ListN.{length}
-use Rattle.refusal.specs.Refusals.{Rule, rule, verdict}
-use Rattle.refusal.specs.declared.Refusal.the-variants.{RamLength, UnfitRecord, UnfitPlace}
-use Rattle.refusal.specs.declared.Verdict.{Verdict}
-use Rattle.page.specs.Page.{pageRule}
-use Rattle.state.specs.Record.{fitRecord}
-use Rattle.state.specs.Validation.{externalRule}
 use Rattle.state.specs.declared.Record.{Record}
+use Rattle.admission.specs.RunRefusals.{runVerdict}
 use Rattle.stop.specs.Stops.{reasonOf}
 use Rattle.plain.specs.PlainMachine.{Result}
 use Rattle.plain.specs.Calls.{callBy}
-use Rattle.place.specs.Places.{fitPlace}
 use Rattle.instruction.specs.Instructions.{instructionOf}
 use Rattle.machine.specs.declared.Answer.{Answer}
-
--- refusals 1 to 5
-abbrev pub runRules : List ℕ → List ℕ → Record → List ℕ → List Rule
-runRules page external r ram =
-    pageRule page
-    ∷ rule (not (eqb (length ram) 32768)) RamLength
-    ∷ externalRule (length external)
-    ∷ rule (not (fitRecord r (length external))) UnfitRecord
-    ∷ rule (not (fitPlace page (r .place))) UnfitPlace
-    ∷ []
-
-unfoldable pub runVerdict : List ℕ → List ℕ → Record → List ℕ → Verdict
-runVerdict page external r ram = verdict (runRules page external r ram)
 
 -- the plain machine's run, or the refusal
 abbrev pub runOf : List ℕ → List ℕ → ℕ → Record → List ℕ → Result

@@ -10,14 +10,13 @@ ghost use Rattle.plain.specs.PlainMachine.{plain};
 ghost use Rattle.place.specs.Places.{following};
 ghost use Rattle.instruction.specs.Instructions.{branchTo, branchIf, exitOf, served, effectOf, instructionOf};
 ghost use Rattle.machine.specs.Executed.{exitEnd, endedBy, Executes, ExecutesAny};
-ghost use Rattle.machine.specs.Runs.{runVerdict, seen, Gives};
+ghost use Rattle.machine.specs.Runs.{seen, Gives};
 use branch::Target;
 use effects::Did;
 use isa::Instruction;
 use isa::Operation;
 use memory::Fault;
 use memory::Stored;
-use refusal::Refusal;
 use refusal::Verdict;
 use service::Ending;
 use state::Record;
@@ -275,33 +274,11 @@ fn run_on(page: &[u8], external: &[u8], start: Record, ram: &mut [u8], budget: u
     }
 }
 
-// Refusals 1 to 5.
-fn verdict_of(page: &[u8], ram: &[u8], external: &[u8], r: Record) -> Verdict
-    ensures { λ v. ⌜ v ≡ runVerdict (now (page .entry)) (now (external .entry)) r (now (ram .entry)) ⌝ }
-{
-    if !page::fits(page) {
-        return Verdict::Refused(Refusal::PageLength);
-    }
-    if ram.len() != 32768 {
-        return Verdict::Refused(Refusal::RamLength);
-    }
-    if !state::external_fits(external) {
-        return Verdict::Refused(Refusal::ExternalLength);
-    }
-    if !state::is_fit(r, external.len()) {
-        return Verdict::Refused(Refusal::UnfitRecord);
-    }
-    if !place::is_fit(page, r.place) {
-        return Verdict::Refused(Refusal::UnfitPlace);
-    }
-    Verdict::Accepted
-}
-
 // A run with a budget.
 pub fn run(page: &[u8], ram: &mut [u8], external: &[u8], r: Record, budget: u32) -> Answer
     ensures { λ a. ⌜ Gives (now (page .entry)) (now (external .entry)) budget r (now (ram .entry)) a (now (ram .exit)) ⌝ }
 {
-    let verdict = verdict_of(page, &ram[..], external, r);
+    let verdict = admission::verdict_of(page, &ram[..], external, r);
     match verdict {
         Verdict::Refused(why) => Answer {
             stop: Stop::Refused(why),

@@ -36,7 +36,7 @@ unfolding trialOf
 text-is page a ram e = ap (λ (x : Result). transcriptOf (x .stop) (x .steps) (x .rec)) (sym e)
 
 returns : tie.Need-returns
-returns c = 
+returns c =
     rw (text-is (c .before .before .before .before .before .before .before .before .before .before .before .before .args .page .now) (c .before .before .before .before .before .before .run .result) _ (rw (c .before .before .before .before .before .before .before .fresh-record .ensures) at (c .before .before .before .before .before .before .run .ensures)))
     (c .before .before .write .ensures)
 

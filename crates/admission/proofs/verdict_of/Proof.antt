@@ -4,10 +4,10 @@ use mathlib.Core.Path.{sym, _∙_}
 use borrow.Author.Tests.{eq-eqb, ne-eqb, not-true, not-false}
 use mathlib.Core.Path.{sym, _∙_}
 use borrow.Author.Tests.{eq-eqb, ne-eqb, not-true, not-false}
-use Rattle.machine.specs.Runs.{runVerdict}
+use Rattle.admission.specs.RunRefusals.{runVerdict}
 use borrow.Author.Needs.{needs}
-use Rattle.machine.proofs.verdict_of.Statement.{statement}
-use Rattle.machine.proofs.verdict_of.Tie as tie
+use Rattle.admission.proofs.verdict_of.Statement.{statement}
+use Rattle.admission.proofs.verdict_of.Tie as tie
 
 fits-requires : tie.Need-fits-requires
 fits-requires c κs = search needs

@@ -1,0 +1,2 @@
+pub mod RunRefusals
+pub mod Theorems
