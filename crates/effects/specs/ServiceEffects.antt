@@ -6,11 +6,21 @@ use lib.Dec.{ltb}
 use Rattle.service.specs.declared.Service.{Service}
 use Rattle.service.specs.declared.Service.the-variants.{Return, Call, TailCall, Syscall, TailSyscall, LongBranch, Preload, SetBase, StoreAtSp, LoadAtSp, LowerSp, DirectSyscall, Validate, Breakpoint, CallRegister, TailCallRegister, Bad}
 use Rattle.memory.specs.declared.Fault.the-variants.{LowStack}
+use Rattle.memory.specs.declared.Stored.{Stored}
+use Rattle.memory.specs.declared.Stored.the-variants.{Done}
+use Rattle.memory.specs.declared.Stored.the-variants as stored
 use Rattle.state.specs.Record.{register, withSp, withBase}
 use Rattle.state.specs.Validation.{validated}
+use Rattle.state.specs.declared.Base.the-variants.{Nothing}
 use Rattle.state.specs.declared.Record.{Record}
-use Rattle.effects.specs.Outcomes.{Outcome, does, fails, leavesNone}
-use Rattle.effects.specs.LoadsAndStores.{loadAt, storeAt}
+use Rattle.access.specs.declared.Did.{Did}
+use Rattle.access.specs.Outcomes.{Outcome, does, fails}
+use Rattle.access.specs.LoadsAndStores.{loadAt, storeAt}
+
+-- the base is none afterwards
+unfoldable pub leavesNone : Outcome → Outcome
+leavesNone (does r ram) = does (withBase r Nothing) ram
+leavesNone (fails fault) = fails fault
 
 -- SP less 4 bytes a word; below 0x10000 is fault 5
 unfoldable pub lowerSp : Record → List ℕ → ℕ → Outcome
@@ -39,3 +49,8 @@ serviceDoes external Breakpoint r ram = leavesNone (does r ram)
 serviceDoes external (CallRegister n) r ram = leavesNone (does r ram)
 serviceDoes external (TailCallRegister n) r ram = leavesNone (does r ram)
 serviceDoes external Bad r ram = leavesNone (does r ram)
+
+-- what the code gives back where the base is none afterwards
+unfoldable pub noneDid : Stored → Record → Did
+noneDid Done r = record { met = Done; after = withBase r Nothing }
+noneDid (stored.Fails fault) r = record { met = stored.Fails fault; after = r }

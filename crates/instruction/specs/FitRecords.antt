@@ -32,9 +32,9 @@ use Rattle.state.specs.declared.Base.{Base}
 use Rattle.state.specs.declared.Base.the-variants.{Nothing, Ram, External}
 use Rattle.state.specs.declared.Record.{Record}
 use Rattle.compute.specs.Computed.{computed}
-use Rattle.effects.specs.Outcomes.{Outcome, does, fails, loadTo, storeWith, leavesNone}
-use Rattle.effects.specs.LoadsAndStores.{stackLoaded, stackStored, afterStackStore, storeAt, literalLoaded, storeBase, loadedBase, accessed}
-use Rattle.effects.specs.ServiceEffects.{lowerSp, setBase, serviceDoes}
+use Rattle.access.specs.Outcomes.{Outcome, does, fails, loadTo, storeWith}
+use Rattle.access.specs.LoadsAndStores.{stackLoaded, stackStored, afterStackStore, storeAt, literalLoaded, storeBase, loadedBase, accessed}
+use Rattle.effects.specs.ServiceEffects.{leavesNone, lowerSp, setBase, serviceDoes}
 
 -- ---- records
 

@@ -22,8 +22,8 @@ use Rattle.service.specs.declared.Ending.the-variants as ending
 use Rattle.state.specs.Record.{register, withPlace}
 use Rattle.state.specs.declared.Record.{Record}
 use Rattle.compute.specs.Computed.{computed}
-use Rattle.effects.specs.Outcomes.{Outcome, does, fails}
-use Rattle.effects.specs.LoadsAndStores.{accessed}
+use Rattle.access.specs.Outcomes.{Outcome, does, fails}
+use Rattle.access.specs.LoadsAndStores.{accessed}
 use Rattle.effects.specs.ServiceEffects.{serviceDoes}
 use Rattle.stop.specs.Stops.{Exit, direct, byLiteral}
 use Rattle.plain.specs.PlainMachine.{Effect, goesOn, exits, faults, unlisted}

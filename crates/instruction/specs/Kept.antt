@@ -32,8 +32,8 @@ use Rattle.state.specs.Record.{register, withPlace, fitRecord}
 use Rattle.state.specs.Validation.{externalFits}
 use Rattle.state.specs.declared.Record.{Record}
 use Rattle.compute.specs.Computed.{computed}
-use Rattle.effects.specs.Outcomes.{Outcome, does, fails}
-use Rattle.effects.specs.LoadsAndStores.{accessed}
+use Rattle.access.specs.Outcomes.{Outcome, does, fails}
+use Rattle.access.specs.LoadsAndStores.{accessed}
 use Rattle.effects.specs.ServiceEffects.{serviceDoes}
 use Rattle.stop.specs.Stops.{Exit}
 use Rattle.plain.specs.PlainMachine.{Effect}

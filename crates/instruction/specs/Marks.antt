@@ -25,7 +25,7 @@ use Rattle.service.specs.declared.Service.{Service as AnyService}
 use Rattle.service.specs.declared.Service.the-variants as service
 use Rattle.state.specs.Record.{register}
 use Rattle.state.specs.declared.Record.{Record}
-use Rattle.effects.specs.Outcomes.{Outcome, does, fails}
+use Rattle.access.specs.Outcomes.{Outcome, does, fails}
 use Rattle.effects.specs.ServiceEffects.{serviceDoes}
 use Rattle.stop.specs.Stops.{Exit}
 use Rattle.plain.specs.PlainMachine.{unlisted}

@@ -15,8 +15,8 @@ use Rattle.service.specs.declared.Service.{Service}
 use Rattle.memory.specs.Faults.{faultNumber}
 use Rattle.state.specs.Record.{withPlace}
 use Rattle.state.specs.declared.Record.{Record}
-use Rattle.effects.specs.Outcomes.{Outcome, does, fails, didOf}
-use Rattle.effects.specs.Outcomes as outcomes
+use Rattle.access.specs.Outcomes.{Outcome, does, fails, didOf}
+use Rattle.access.specs.Outcomes as outcomes
 use Rattle.effects.specs.ServiceEffects.{serviceDoes}
 use Rattle.stop.specs.Stops.{Exit, direct, byLiteral, budget, service, fault, mark}
 use Rattle.plain.specs.PlainMachine.{Effect, goesOn, exits, faults, unlisted, Result, onward, plain}

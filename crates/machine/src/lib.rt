@@ -11,8 +11,8 @@ ghost use Rattle.place.specs.Places.{following};
 ghost use Rattle.instruction.specs.Instructions.{branchTo, branchIf, exitOf, served, effectOf, instructionOf};
 ghost use Rattle.machine.specs.Executed.{exitEnd, endedBy, Executes, ExecutesAny};
 ghost use Rattle.machine.specs.Runs.{seen, Gives};
+use access::Did;
 use branch::Target;
-use effects::Did;
 use isa::Instruction;
 use isa::Operation;
 use memory::Fault;
@@ -173,7 +173,7 @@ fn perform(page: &[u8], external: &[u8], i: Instruction, r: Record, ram: &mut [u
     match i {
         Instruction::Data(operation) => ended(computed(operation, r), End::GoesOn, next),
         Instruction::Memory(access) => ended(
-            effects::perform(page, external, access, r, ram),
+            access::perform(page, external, access, r, ram),
             End::GoesOn,
             next,
         ),

@@ -1,4 +1,4 @@
-use Rattle.effects.specs.Outcomes.{noneDid}
+use Rattle.effects.specs.ServiceEffects.{noneDid}
 use borrow.Author.Needs.{needs}
 use Rattle.effects.proofs.leave_none.Statement.{statement}
 use Rattle.effects.proofs.leave_none.Tie as tie

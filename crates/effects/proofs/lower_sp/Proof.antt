@@ -1,4 +1,4 @@
-use Rattle.effects.specs.Outcomes.{didOf}
+use Rattle.access.specs.Outcomes.{didOf}
 use borrow.Author.Tests.{lt-ltb, le-ltb}
 use Rattle.effects.specs.ServiceEffects.{lowerSp}
 use borrow.Author.Needs.{needs}

@@ -1,4 +1,4 @@
-use Rattle.effects.specs.Outcomes.{didOf}
+use Rattle.access.specs.Outcomes.{didOf}
 use borrow.Author.Needs.{needs}
 use Rattle.effects.proofs.set_base_to.Statement.{statement}
 use Rattle.effects.proofs.set_base_to.Tie as tie

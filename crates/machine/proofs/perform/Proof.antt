@@ -3,8 +3,8 @@ use Rattle.machine.proofs.Laws.{on-executed, on-ram, branch-ram, branch
 use Rattle.machine.specs.Executed.{executedOf, ramOf}
 use Rattle.instruction.specs.Instructions.{effectOf}
 use Rattle.branch.specs.Theorems.{near-compare, near-conditional, near-b}
-use Rattle.effects.specs.Outcomes.{does, didOf}
-use Rattle.effects.specs.Outcomes as outcomes
+use Rattle.access.specs.Outcomes.{does, didOf}
+use Rattle.access.specs.Outcomes as outcomes
 use mathlib.Core.Path.{refl, ap, _∙_}
 use native.Mathlib.Omega.{arith}
 use Rattle.machine.proofs.Laws.{on-executed, on-ram, branch-ram, branching}
@@ -13,7 +13,7 @@ use Rattle.instruction.specs.Instructions.{effectOf}
 use lib.Dec.{eqb}
 use mathlib.Core.Bool.{not}
 use Prim.Native.Nat.{ℕ}
-use Rattle.effects.specs.Outcomes.{does}
+use Rattle.access.specs.Outcomes.{does}
 use borrow.Author.Needs.{needs}
 use Rattle.machine.proofs.perform.Statement.{statement}
 use Rattle.machine.proofs.perform.Tie as tie

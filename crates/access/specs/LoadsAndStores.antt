@@ -17,7 +17,7 @@ use Rattle.isa.specs.declared.Access.{Access}
 use Rattle.isa.specs.declared.Access.the-variants.{LdrLit, StrSp, LdrSp, Str, Strb, Strh, Ldr, Ldrb, Ldrh, Ldrsb, Ldrsh}
 use Rattle.state.specs.Record.{register}
 use Rattle.state.specs.declared.Record.{Record}
-use Rattle.effects.specs.Outcomes.{Outcome, loadTo, storeWith}
+use Rattle.access.specs.Outcomes.{Outcome, loadTo, storeWith}
 
 -- ---- the stack: a word at an address, which is SP and more, without wrapping. Past 0x18000 is fault 4. Below 0x10000 it is SP
 -- that lies there, fault 5; no fit record has such an SP

@@ -1,8 +1,8 @@
 use borrow.Author.Tests.{lt-ltb, le-ltb}
-use Rattle.effects.specs.LoadsAndStores.{literalLoaded}
+use Rattle.access.specs.LoadsAndStores.{literalLoaded}
 use borrow.Author.Needs.{needs}
-use Rattle.effects.proofs.literal_load.Statement.{statement}
-use Rattle.effects.proofs.literal_load.Tie as tie
+use Rattle.access.proofs.literal_load.Statement.{statement}
+use Rattle.access.proofs.literal_load.Tie as tie
 
 cast-bundle : tie.Need-cast-bundle
 cast-bundle c = search needs

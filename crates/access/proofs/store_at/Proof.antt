@@ -1,7 +1,7 @@
-use Rattle.effects.proofs.Laws.{store-did, stack-ram}
+use Rattle.access.proofs.Laws.{store-did, stack-ram}
 use borrow.Author.Needs.{needs}
-use Rattle.effects.proofs.store_at.Statement.{statement}
-use Rattle.effects.proofs.store_at.Tie as tie
+use Rattle.access.proofs.store_at.Statement.{statement}
+use Rattle.access.proofs.store_at.Tie as tie
 
 register-of-requires : tie.Need-register-of-requires
 register-of-requires c κs = search needs

@@ -1,7 +1,7 @@
-use Rattle.effects.proofs.Laws.{load-did}
+use Rattle.access.proofs.Laws.{load-did}
 use borrow.Author.Needs.{needs}
-use Rattle.effects.proofs.load_at.Statement.{statement}
-use Rattle.effects.proofs.load_at.Tie as tie
+use Rattle.access.proofs.load_at.Statement.{statement}
+use Rattle.access.proofs.load_at.Tie as tie
 
 stack-load-requires : tie.Need-stack-load-requires
 stack-load-requires c κs = search needs

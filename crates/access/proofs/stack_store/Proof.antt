@@ -1,9 +1,9 @@
 use borrow.Author.Tests.{lt-ltb, le-ltb}
 use mathlib.Core.Path.{refl}
-use Rattle.effects.specs.LoadsAndStores.{stackStored, afterStackStore}
+use Rattle.access.specs.LoadsAndStores.{stackStored, afterStackStore}
 use borrow.Author.Needs.{needs}
-use Rattle.effects.proofs.stack_store.Statement.{statement}
-use Rattle.effects.proofs.stack_store.Tie as tie
+use Rattle.access.proofs.stack_store.Statement.{statement}
+use Rattle.access.proofs.stack_store.Tie as tie
 
 ram-store-requires : tie.Need-ram-store-requires
 ram-store-requires c κs = search needs

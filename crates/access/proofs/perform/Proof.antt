@@ -1,8 +1,9 @@
-use Rattle.effects.specs.LoadsAndStores.{accessed}
-use Rattle.effects.proofs.Laws.{load-did, load-ram}
+use Rattle.access.specs.LoadsAndStores.{accessed}
+use Rattle.access.proofs.Laws.{load-did}
+use Rattle.access.specs.Theorems.{load-ram}
 use borrow.Author.Needs.{needs}
-use Rattle.effects.proofs.perform.Statement.{statement}
-use Rattle.effects.proofs.perform.Tie as tie
+use Rattle.access.proofs.perform.Statement.{statement}
+use Rattle.access.proofs.perform.Tie as tie
 
 cast-sp : tie.Need-cast-sp
 cast-sp c = search needs

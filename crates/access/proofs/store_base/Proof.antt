@@ -1,7 +1,7 @@
-use Rattle.effects.proofs.Laws.{store-did, base-ram}
+use Rattle.access.proofs.Laws.{store-did, base-ram}
 use borrow.Author.Needs.{needs}
-use Rattle.effects.proofs.store_base.Statement.{statement}
-use Rattle.effects.proofs.store_base.Tie as tie
+use Rattle.access.proofs.store_base.Statement.{statement}
+use Rattle.access.proofs.store_base.Tie as tie
 
 register-of-requires : tie.Need-register-of-requires
 register-of-requires c κs = search needs

@@ -1,7 +1,7 @@
-use Rattle.effects.specs.Outcomes.{loadDid}
+use Rattle.access.specs.Outcomes.{loadDid}
 use borrow.Author.Needs.{needs}
-use Rattle.effects.proofs.load_to.Statement.{statement}
-use Rattle.effects.proofs.load_to.Tie as tie
+use Rattle.access.proofs.load_to.Statement.{statement}
+use Rattle.access.proofs.load_to.Tie as tie
 
 enum-known-l : tie.Need-enum-known-l
 enum-known-l c = search needs

@@ -9,10 +9,9 @@ use Rattle.memory.specs.declared.Loaded.the-variants as loaded
 use Rattle.memory.specs.declared.Stored.{Stored}
 use Rattle.memory.specs.declared.Stored.the-variants.{Done}
 use Rattle.memory.specs.declared.Stored.the-variants as stored
-use Rattle.state.specs.Record.{withRegister, withBase}
+use Rattle.state.specs.Record.{withRegister}
 use Rattle.state.specs.declared.Record.{Record}
-use Rattle.state.specs.declared.Base.the-variants.{Nothing}
-use Rattle.effects.specs.declared.Did.{Did}
+use Rattle.access.specs.declared.Did.{Did}
 
 -- it is done and leaves a record and RAM; or it meets a fault, and changes nothing
 pub data Outcome : Type 0 where
@@ -29,11 +28,6 @@ unfoldable pub storeWith : Record → Stored → List ℕ → Outcome
 storeWith r Done after = does r after
 storeWith r (stored.Fails fault) after = fails fault
 
--- the base is none afterwards
-unfoldable pub leavesNone : Outcome → Outcome
-leavesNone (does r ram) = does (withBase r Nothing) ram
-leavesNone (fails fault) = fails fault
-
 -- ---- what the code gives back for an outcome
 
 unfoldable pub didOf : Record → Outcome → Did
@@ -44,14 +38,10 @@ unfoldable pub ramOf : List ℕ → Outcome → List ℕ
 ramOf ram (does r after) = after
 ramOf ram (fails fault) = ram
 
--- by what was loaded, and where the base is none afterwards
+-- by what was loaded
 unfoldable pub loadDid : Record → ℕ → Loaded → Did
 loadDid r t (Value x) = record { met = Done; after = withRegister r t x }
 loadDid r t (loaded.Fails fault) = record { met = stored.Fails fault; after = r }
-
-unfoldable pub noneDid : Stored → Record → Did
-noneDid Done r = record { met = Done; after = withBase r Nothing }
-noneDid (stored.Fails fault) r = record { met = stored.Fails fault; after = r }
 
 abbrev pub Does : Record → List ℕ → Outcome → Did → List ℕ → Type 0
 Does r ram o d after = (d ≡ didOf r o) × (after ≡ ramOf ram o)

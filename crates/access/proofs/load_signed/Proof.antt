@@ -1,6 +1,6 @@
 use borrow.Author.Needs.{needs}
-use Rattle.effects.proofs.load_signed.Statement.{statement}
-use Rattle.effects.proofs.load_signed.Tie as tie
+use Rattle.access.proofs.load_signed.Statement.{statement}
+use Rattle.access.proofs.load_signed.Tie as tie
 
 load-base-requires : tie.Need-load-base-requires
 load-base-requires c κs = search needs

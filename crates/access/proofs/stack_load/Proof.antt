@@ -1,8 +1,8 @@
 use borrow.Author.Tests.{lt-ltb, le-ltb}
-use Rattle.effects.specs.LoadsAndStores.{stackLoaded}
+use Rattle.access.specs.LoadsAndStores.{stackLoaded}
 use borrow.Author.Needs.{needs}
-use Rattle.effects.proofs.stack_load.Statement.{statement}
-use Rattle.effects.proofs.stack_load.Tie as tie
+use Rattle.access.proofs.stack_load.Statement.{statement}
+use Rattle.access.proofs.stack_load.Tie as tie
 
 ram-load-requires : tie.Need-ram-load-requires
 ram-load-requires c κs = search needs

@@ -1,0 +1,56 @@
+-- What the code gives back, as the outcome that it stands for. Assumes nothing.
+use Prim.Native.Nat.{ℕ, _+_, _-_}
+use mathlib.Core.Bool.{Bool, true, false, cond}
+use mathlib.Core.List.{List}
+use mathlib.Core.Path.{_≡_, refl}
+use lib.Dec.{ltb}
+use Rattle.endian.specs.LittleEndian.{widthOf, storeLE}
+use Rattle.endian.specs.declared.Size.{Size}
+use Rattle.endian.specs.declared.Size.the-variants.{Word}
+use Rattle.memory.specs.Memory.{insideRam, ramStored, ramAfter, storedBy, afterStoreBy}
+use Rattle.memory.specs.declared.Fault.{Fault}
+use Rattle.memory.specs.declared.Fault.the-variants.{PastRam, PastStack, LowStack}
+use Rattle.memory.specs.declared.Loaded.{Loaded}
+use Rattle.memory.specs.declared.Loaded.the-variants as loaded
+use Rattle.memory.specs.declared.Stored.{Stored}
+use Rattle.memory.specs.declared.Stored.the-variants as stored
+use Rattle.state.specs.declared.Base.{Base}
+use Rattle.state.specs.declared.Base.the-variants.{Nothing, Ram, External}
+use Rattle.state.specs.declared.Record.{Record}
+use Rattle.access.specs.Outcomes.{fails, loadTo, storeWith, didOf, ramOf, loadDid}
+use Rattle.access.specs.LoadsAndStores.{stackStored, afterStackStore}
+
+pub load-did : (r : Record) (ram : List ℕ) (t : ℕ) (l : Loaded) → loadDid r t l ≡ didOf r (loadTo r ram t l)
+unfolding loadDid loadTo didOf
+load-did r ram t (loaded.Value x) = refl
+load-did r ram t (loaded.Fails f) = refl
+
+pub store-did : (r : Record) (s : Stored) (after : List ℕ) → record { met = s; after = r } ≡ didOf r (storeWith r s after)
+unfolding storeWith didOf
+store-did r stored.Done after = refl
+store-did r (stored.Fails f) after = refl
+
+-- a store that fails changes none either
+ram-by : (r : Record) (ram : List ℕ) (f : Fault) (t : Bool) (after : List ℕ)
+    → cond t after ram ≡ ramOf ram (storeWith r (cond t stored.Done (stored.Fails f)) (cond t after ram))
+unfolding storeWith ramOf
+ram-by r ram f true after = refl
+ram-by r ram f false after = refl
+
+pub stack-ram : (r : Record) (ram : List ℕ) (address x : ℕ)
+    → afterStackStore ram address x ≡ ramOf ram (storeWith r (stackStored address) (afterStackStore ram address x))
+unfolding stackStored afterStackStore ramStored ramAfter storeWith ramOf
+stack-ram r ram address x = by (ltb address 0x10000) (insideRam (address - 0x10000) Word) (storeLE 4 ram (address - 0x10000) x)
+  where
+    by : (t u : Bool) (after : List ℕ)
+        → cond t ram (cond u after ram)
+        ≡ ramOf ram (storeWith r (cond t (stored.Fails LowStack) (cond u stored.Done (stored.Fails PastStack))) (cond t ram (cond u after ram)))
+    by true u after = refl
+    by false u after = ram-by r ram PastStack u after
+
+pub base-ram : (r : Record) (ram : List ℕ) (b : Base) (imm12 : ℕ) (size : Size) (x : ℕ)
+    → afterStoreBy b ram imm12 size x ≡ ramOf ram (storeWith r (storedBy b imm12 size) (afterStoreBy b ram imm12 size x))
+unfolding storedBy afterStoreBy ramStored ramAfter storeWith ramOf
+base-ram r ram Nothing imm12 size x = refl
+base-ram r ram (Ram o) imm12 size x = ram-by r ram PastRam (insideRam (o + imm12) size) (storeLE (widthOf size) ram (o + imm12) x)
+base-ram r ram (External o) imm12 size x = refl
