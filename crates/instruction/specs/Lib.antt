@@ -4,3 +4,4 @@ pub mod Marks
 pub mod FitPlaces
 pub mod FitRecords
 pub mod Kept
+pub mod ReadsAtPlace
