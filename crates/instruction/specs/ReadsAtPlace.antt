@@ -91,5 +91,6 @@ reads-at-place page other external r ram a =
   where
     behind : following page (r .place) ≡ following other (r .place)
     behind = rw (a .first)
+
     stands : instructionAt page (r .place) ≡ instructionAt other (r .place)
     stands = rw (a .bundles, a .first, a .second)
