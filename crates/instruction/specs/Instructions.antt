@@ -44,11 +44,25 @@ exitAt exit place (fails fault) = faults fault
 -- a branch that is taken goes to the first half of its target; one that has none means nothing listed
 unfoldable pub branchTo : Record → List ℕ → Target → Effect
 branchTo r ram target.Bad = unlisted
-branchTo r ram (At b) = goesOn (withPlace r (2 * b)) ram
+branchTo r ram (At k) = goesOn (withPlace r (2 * k)) ram
 
 -- one that is not taken goes on behind itself
 unfoldable pub branchIf : Bool → Record → List ℕ → ℕ → Target → Effect
 branchIf taken r ram next t = cond taken (branchTo r ram t) (goesOn (withPlace r next) ram)
+
+-- offsets are signed for b and bcc, unsigned for cbz and cbnz
+abbrev pub cbz : List ℕ → ℕ → ℕ → Record → List ℕ → Effect
+cbz page imm6 n r ram = branchIf (eqb (register r n) 0) r ram (following page (r .place)) (targetOf (r .place) (pos imm6))
+
+abbrev pub cbnz : List ℕ → ℕ → ℕ → Record → List ℕ → Effect
+cbnz page imm6 n r ram = branchIf (not (eqb (register r n) 0)) r ram (following page (r .place)) (targetOf (r .place) (pos imm6))
+
+abbrev pub bcc : List ℕ → ℕ → ℕ → Record → List ℕ → Effect
+bcc page condition imm8 r ram =
+    branchIf (conditionHolds condition (r .flags)) r ram (following page (r .place)) (targetOf (r .place) (SInt 8 imm8))
+
+abbrev pub b : ℕ → Record → List ℕ → Effect
+b imm11 r ram = branchTo r ram (targetOf (r .place) (SInt 11 (bits imm11 10 0)))
 
 -- ---- services
 
@@ -73,13 +87,10 @@ served page external r ram n =
 unfoldable pub effectOf : List ℕ → List ℕ → Record → List ℕ → Instruction → Effect
 effectOf page external r ram (Data operation) = goOnAt (following page (r .place)) (does (computed operation r) ram)
 effectOf page external r ram (Memory access) = goOnAt (following page (r .place)) (accessed page external access r ram)
-effectOf page external r ram (Cbz imm6 n) =
-    branchIf (eqb (register r n) 0) r ram (following page (r .place)) (targetOf (r .place) (pos imm6))
-effectOf page external r ram (Cbnz imm6 n) =
-    branchIf (not (eqb (register r n) 0)) r ram (following page (r .place)) (targetOf (r .place) (pos imm6))
-effectOf page external r ram (Bcc condition imm8) =
-    branchIf (conditionHolds condition (r .flags)) r ram (following page (r .place)) (targetOf (r .place) (SInt 8 imm8))
-effectOf page external r ram (B imm11) = branchTo r ram (targetOf (r .place) (SInt 11 (bits imm11 10 0)))
+effectOf page external r ram (Cbz imm6 n) = cbz page imm6 n r ram
+effectOf page external r ram (Cbnz imm6 n) = cbnz page imm6 n r ram
+effectOf page external r ram (Bcc condition imm8) = bcc page condition imm8 r ram
+effectOf page external r ram (B imm11) = b imm11 r ram
 effectOf page external r ram (Service n) = served page external r ram n
 effectOf page external r ram Unlisted = unlisted
 

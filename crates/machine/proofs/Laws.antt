@@ -3,7 +3,7 @@ use Prim.Native.Nat.{ℕ, _+_, _-_, _/_, _≤_, _<_}
 use native.Mathlib.Omega.{arith}
 use mathlib.Core.Bool.{Bool, true, false, cond}
 use mathlib.Core.List.{List}
-use mathlib.Core.Path.{_≡_, refl, sym, ap, _∙_}
+use mathlib.Core.Path.{_≡_, refl, _∙_}
 use lib.ListN.{length}
 use Rattle.page.specs.Page.{firstOf}
 use Rattle.isa.specs.ListedEncodings.{opens32}
@@ -13,12 +13,11 @@ use Rattle.service.specs.Services.{serviceOf, endingOf}
 use Rattle.service.specs.declared.Ending.{Ending}
 use Rattle.service.specs.declared.Service.{Service}
 use Rattle.memory.specs.Faults.{faultNumber}
-use Rattle.state.specs.Record.{withPlace}
 use Rattle.state.specs.declared.Record.{Record}
 use Rattle.access.specs.Outcomes.{Outcome, does, fails, didOf}
 use Rattle.access.specs.Outcomes as outcomes
 use Rattle.effects.specs.ServiceEffects.{serviceDoes}
-use Rattle.stop.specs.Stops.{Exit, direct, byLiteral, budget, service, fault, mark}
+use Rattle.stop.specs.Stops.{Exit, direct, byLiteral, service, fault, mark}
 use Rattle.plain.specs.PlainMachine.{Effect, goesOn, exits, faults, unlisted, Result, onward, plain}
 use Rattle.plain.specs.Theorems.{turn}
 use Rattle.place.specs.Places.{following}
@@ -58,15 +57,15 @@ unfolding branchTo ramOf
 branch-ram r ram target.Bad = refl
 branch-ram r ram (target.At b) = refl
 
-pub branching : (r : Record) (ram : List ℕ) (taken held : Bool) (next behind : ℕ) (t to : Target) (x : Executed)
-    → taken ≡ held → next ≡ behind → t ≡ to → x ≡ executedOf r (branchIf taken r ram next t)
-    → Executes r ram (branchIf held r ram behind to) x ram
+pub branch-if-ram : (taken : Bool) (r : Record) (ram : List ℕ) (next : ℕ) (t : Target) → ram ≡ ramOf ram (branchIf taken r ram next t)
 unfolding branchIf ramOf
-branching r ram taken held next behind t to x p q s h = rw (← p, ← q, ← s) (h, by taken)
-  where
-    by : (b : Bool) → ram ≡ ramOf ram (cond b (branchTo r ram t) (goesOn (withPlace r next) ram))
-    by true = branch-ram r ram t
-    by false = refl
+branch-if-ram true r ram next t = branch-ram r ram t
+branch-if-ram false r ram next t = refl
+
+pub branching : (r : Record) (ram : List ℕ) (taken held : Bool) (next behind : ℕ) (t to : Target) (x : Executed)
+    → taken ≡ held → next ≡ behind → t ≡ to
+    → x ≡ executedOf r (branchIf taken r ram next t) → x ≡ executedOf r (branchIf held r ram behind to)
+branching r ram taken held next behind t to x p q s h = rw (← p, ← q, ← s) h
 
 -- a service, by its meaning and its ending
 pub serving : (page external : List ℕ) (r : Record) (ram : List ℕ) (n : ℕ) (s : Service) (e : Ending)

@@ -2,12 +2,12 @@
 ghost use mathlib.Core.Path.{_≡_};
 ghost use Prim.Native.Nat.{_<_, _≤_};
 ghost use lib.ListN.{length};
-ghost use Rattle.arm.specs.Conditions.{conditionHolds};
 ghost use Rattle.branch.specs.Theorems.{Near};
 ghost use Rattle.memory.specs.declared.Stored.the-variants.{Done};
 ghost use Rattle.compute.specs.Computed as computing;
 ghost use Rattle.plain.specs.PlainMachine.{plain};
 ghost use Rattle.place.specs.Places.{following};
+ghost use Rattle.instruction.specs.Instructions as instructions;
 ghost use Rattle.instruction.specs.Instructions.{branchTo, branchIf, exitOf, served, effectOf, instructionOf};
 ghost use Rattle.machine.specs.Executed.{exitEnd, endedBy, Executes, ExecutesAny};
 ghost use Rattle.machine.specs.Runs.{seen, Gives};
@@ -105,6 +105,50 @@ fn branch_if(taken: bool, r: Record, next: u16, t: Target) -> Executed
     }
 }
 
+fn cbz(page: &[u8], imm6: u8, n: u8, r: Record) -> Executed
+    requires { ⌜ r .place < 128 ⌝ }
+    ensures { λ x. ⌜ ExecutesAny r (instructions.cbz (now (page .entry)) imm6 n r) x ⌝ }
+{
+    branch_if(
+        state::register_of(r, n) == 0,
+        r,
+        next_place(page, r.place),
+        branch::compare_target(r.place, imm6),
+    )
+}
+
+fn cbnz(page: &[u8], imm6: u8, n: u8, r: Record) -> Executed
+    requires { ⌜ r .place < 128 ⌝ }
+    ensures { λ x. ⌜ ExecutesAny r (instructions.cbnz (now (page .entry)) imm6 n r) x ⌝ }
+{
+    branch_if(
+        state::register_of(r, n) != 0,
+        r,
+        next_place(page, r.place),
+        branch::compare_target(r.place, imm6),
+    )
+}
+
+fn bcc(page: &[u8], condition: u8, imm8: u8, r: Record) -> Executed
+    requires { ⌜ r .place < 128 ⌝ }
+    ensures { λ x. ⌜ ExecutesAny r (instructions.bcc (now (page .entry)) condition imm8 r) x ⌝ }
+{
+    let flags = r.flags;
+    branch_if(
+        arm::condition_holds(condition, flags),
+        r,
+        next_place(page, r.place),
+        branch::conditional_target(r.place, imm8),
+    )
+}
+
+fn b(imm11: u16, r: Record) -> Executed
+    requires { ⌜ r .place < 128 ⌝ }
+    ensures { λ x. ⌜ ExecutesAny r (instructions.b imm11 r) x ⌝ }
+{
+    branch_to(r, branch::branch_target(r.place, imm11))
+}
+
 // ---- services
 
 // What an exit carries.
@@ -155,47 +199,26 @@ fn computed(operation: Operation, r: Record) -> Did
     }
 }
 
-// The condition of a branch.
-fn holds(condition: u8, r: Record) -> bool
-    ensures { λ t. ⌜ t ≡ conditionHolds condition (r .flags) ⌝ }
-{
-    let flags = r.flags;
-    arm::condition_holds(condition, flags)
-}
-
 // The instruction i, which stands at the record's place.
 fn perform(page: &[u8], external: &[u8], i: Instruction, r: Record, ram: &mut [u8]) -> Executed
     requires { ⌜ r .place < 128 ⌝ }
     ensures { λ x. ⌜ Executes r (now (ram .entry)) (effectOf (now (page .entry)) (now (external .entry)) r (now (ram .entry)) i) x (now (ram .exit)) ⌝ }
 {
-    let here = r.place;
-    let next = next_place(page, here);
     match i {
-        Instruction::Data(operation) => ended(computed(operation, r), End::GoesOn, next),
+        Instruction::Data(operation) => ended(
+            computed(operation, r),
+            End::GoesOn,
+            next_place(page, r.place),
+        ),
         Instruction::Memory(access) => ended(
             access::perform(page, external, access, r, ram),
             End::GoesOn,
-            next,
+            next_place(page, r.place),
         ),
-        Instruction::Cbz(imm6, n) => branch_if(
-            state::register_of(r, n) == 0,
-            r,
-            next,
-            branch::compare_target(here, imm6),
-        ),
-        Instruction::Cbnz(imm6, n) => branch_if(
-            state::register_of(r, n) != 0,
-            r,
-            next,
-            branch::compare_target(here, imm6),
-        ),
-        Instruction::Bcc(condition, imm8) => branch_if(
-            holds(condition, r),
-            r,
-            next,
-            branch::conditional_target(here, imm8),
-        ),
-        Instruction::B(imm11) => branch_to(r, branch::branch_target(here, imm11)),
+        Instruction::Cbz(imm6, n) => cbz(page, imm6, n, r),
+        Instruction::Cbnz(imm6, n) => cbnz(page, imm6, n, r),
+        Instruction::Bcc(condition, imm8) => bcc(page, condition, imm8, r),
+        Instruction::B(imm11) => b(imm11, r),
         Instruction::Service(n) => serve(page, external, n, r, ram),
         Instruction::Unlisted => Executed {
             end: End::Mark,
