@@ -1,12 +1,12 @@
 -- What may be run: from every bundle below the count, with the fresh record; a page of count 0 is refused 5. So fitness is not
 -- empty, and demand 3 is about something. Assumes nothing.
-use Prim.Native.Nat.{ℕ, _*_, _/_, _%_, _<_}
+use Prim.Native.Nat.{ℕ, _*_, _<_}
 use native.Mathlib.Omega.{arith}
 use mathlib.Core.Bool.{true}
 use mathlib.Core.List.{List}
 use mathlib.Core.Path.{_≡_, refl}
 use lib.ListN.{length}
-use borrow.Author.Tests.{lt-ltb, le-ltb, eq-eqb}
+use borrow.Author.Tests.{le-ltb, eq-eqb}
 use Rattle.refusal.specs.declared.Refusal.the-variants.{UnfitPlace}
 use Rattle.refusal.specs.declared.Verdict.the-variants.{Accepted, Refused}
 use Rattle.page.specs.Page.{pageFits}
@@ -14,15 +14,9 @@ use Rattle.count.specs.Count.{countOf}
 use Rattle.state.specs.Record.{freshRecord, withPlace, fitRecord}
 use Rattle.state.specs.Validation.{externalFits}
 use Rattle.place.specs.Places.{fitPlace}
+use Rattle.instruction.specs.FitPlaces.{bundle-fits}
 use Rattle.admission.specs.RunRefusals.{runVerdict}
 use Rattle.admission.specs.Theorems.{accepts}
-
-pub bundle-fits : (page : List ℕ) → pageFits page ≡ true → (k : ℕ) → k < countOf page → fitPlace page (2 * k) ≡ true
-unfolding fitPlace
-bundle-fits page p k l =
-    let half : 2 * k / 2 ≡ k = omega arith in
-    let even : 2 * k % 2 ≡ 0 = omega arith in
-    rw (p, half, lt-ltb k (countOf page) l, eq-eqb _ _ even)
 
 fresh-fits : (k external : ℕ) → fitRecord (withPlace freshRecord k) external ≡ true
 unfolding fitRecord withPlace

@@ -81,5 +81,5 @@ pub demand3 : (s : Setting) → pageFits (s .page) ≡ true → externalFits (le
     → Demand3 Setting instructionIn verdictIn (Starts (s .page)) (ServiceAt (s .page)) Known s (callsOf os) r ram
 demand3 s p e r ram f g n os h =
     series.demand3 Setting instructionIn verdictIn s (Fit (s .page) (s .external)) (Starts (s .page)) (ServiceAt (s .page)) Known
-    (keeps (s .page) (s .external) p e) (starts (s .page) (s .external) p) (λ t m h. accepts (s .page) (s .external) t m p (h .ramFits) e (h .recordFits) (h .placeFits))
+    (keeps (s .page) (s .external) p) (starts (s .page) (s .external) p) (λ t m h. accepts (s .page) (s .external) t m p (h .ramFits) e (h .recordFits) (h .placeFits))
     (callsOf os) r ram (record { recordFits = f; placeFits = g; ramFits = n }) (as-series s os r ram h)

@@ -214,8 +214,9 @@ module _ (page : List ℕ) (f : pageFits page ≡ true) where
   unfolding fitPlace
   fits place l h = rw (counted, lt-ltb (place / 2) (countOf page) l) h
 
-  even-fits : (b : ℕ) → b < countOf page → fitPlace page (2 * b) ≡ true
-  even-fits b l = let even : 2 * b % 2 ≡ 0 = omega arith in fits (2 * b) (omega arith) (rw even)
+  -- every bundle below the count is fit to jump to
+  pub bundle-fits : (b : ℕ) → b < countOf page → fitPlace page (2 * b) ≡ true
+  bundle-fits b l = let even : 2 * b % 2 ≡ 0 = omega arith in fits (2 * b) (omega arith) (rw even)
 
   stands : (place : ℕ) → place / 2 < countOf page
       → instructionAt page place ≡ standsIn (isEven place) (firstOf page (place / 2)) (secondOf page (place / 2))
@@ -235,7 +236,7 @@ module _ (page : List ℕ) (f : pageFits page ≡ true) where
       → fitPlace page (place + cond wideFirst 2 1) ≡ true
   behind-even place e l true h =
       let next : place + 2 ≡ 2 * (place / 2 + 1) = omega arith in
-      rw next (even-fits (place / 2 + 1) h)
+      rw next (bundle-fits (place / 2 + 1) h)
   behind-even place e l false h =
       let half : (place + 1) / 2 ≡ place / 2 = omega arith in
       let odd : (place + 1) % 2 ≡ 1 = omega arith in
@@ -259,13 +260,13 @@ module _ (page : List ℕ) (f : pageFits page ≡ true) where
           → LeadsFrom page place (flowOf page place (standsIn even first second))
       go true p s l =
           let even = eqb-true (place % 2) 0 p in
-          leads-map even-fits (behind-even place even l (opens32 first)) (flowOf page place (standsIn true first second))
+          leads-map bundle-fits (behind-even place even l (opens32 first)) (flowOf page place (standsIn true first second))
           (first-half page (countOf page) (place / 2) first second place (omega arith) (closed (place / 2) l))
       go false p s l =
           let odd = eqb-false (place % 2) 0 p in
           let next : place + 1 ≡ 2 * (place / 2 + 1) = omega arith in
           let n = two-narrow page first second s in
-          leads-map even-fits (λ h. rw (n .0, next) (even-fits (place / 2 + 1) h)) (flowOf page place (standsIn false first second))
+          leads-map bundle-fits (λ h. rw (n .0, next) (bundle-fits (place / 2 + 1) h)) (flowOf page place (standsIn false first second))
           (second-half page (countOf page) (place / 2) first second place (omega arith) (closed (place / 2) l) s)
 
 -- an instruction that leads anywhere is listed

@@ -1,7 +1,7 @@
 -- The definition of an instruction: it reads the page at the place and isn't given the count. A fault or the mark of what is not
 -- listed changes nothing.
 use Prim.Native.Nat.{ℕ, _*_}
-use mathlib.Core.Bool.{Bool, true, not, _&&_, cond}
+use mathlib.Core.Bool.{Bool, not, _&&_, cond}
 use mathlib.Core.List.{List}
 use lib.Dec.{eqb, leb}
 use lib.IntN.{pos}

@@ -29,7 +29,6 @@ use Rattle.memory.specs.Faults.{faultNumber}
 use Rattle.memory.specs.declared.Fault.{Fault}
 use Rattle.memory.specs.declared.Fault.the-variants.{NoBase, PastRam, OffExternalPage, PastStack, LowStack, PastPage}
 use Rattle.state.specs.Record.{register, withPlace, fitRecord}
-use Rattle.state.specs.Validation.{externalFits}
 use Rattle.state.specs.declared.Record.{Record}
 use Rattle.compute.specs.Computed.{computed}
 use Rattle.access.specs.Outcomes.{Outcome, does, fails}
@@ -155,10 +154,10 @@ module _ (page external : List ℕ) (r : Record) (ram : List ℕ) (f : Fit page 
       (service-leaves (length external) r ram (f .recordFits) (f .ramFits) (serviceOf page n))
   each-kept Unlisted s h = absurd h
 
-pub keeps : (page external : List ℕ) → pageFits page ≡ true → externalFits (length external) ≡ true → (r : Record) (ram : List ℕ)
+pub keeps : (page external : List ℕ) → pageFits page ≡ true → (r : Record) (ram : List ℕ)
     → Fit page external r ram → Keeps (Fit page external) (ServiceAt page r) Known (instructionOf page external r ram)
 unfolding instructionOf
-keeps page external e x r ram f =
+keeps page external e r ram f =
     each-kept page external r ram f (instructionAt page (r .place)) refl (leads page e (r .place) (f .placeFits))
 
 pub starts : (page external : List ℕ) → pageFits page ≡ true → (r : Record) (ram : List ℕ) → Fit page external r ram → Starts page r
