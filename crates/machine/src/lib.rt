@@ -244,6 +244,12 @@ fn execute(page: &[u8], external: &[u8], r: Record, ram: &mut [u8]) -> Executed
 
 // ---- runs
 
+fn stopped(stop: Stop, steps: u32, after: Record) -> Answer
+    ensures { λ a. ⌜ a ≡ record { stop = stop; steps = steps; after = after } ⌝ }
+{
+    Answer { stop, steps, after }
+}
+
 // Until the budget is spent or an instruction doesn't go on.
 fn run_on(page: &[u8], external: &[u8], start: Record, ram: &mut [u8], budget: u32) -> Answer
     requires { ⌜ length (now page) ≤ 256 ⌝ }
@@ -260,41 +266,17 @@ fn run_on(page: &[u8], external: &[u8], start: Record, ram: &mut [u8], budget: u
                 r = after;
                 steps += 1;
             }
-            End::Exits(n) => {
-                return Answer {
-                    stop: Stop::Service(n),
-                    steps: steps + 1,
-                    after,
-                };
-            }
-            End::ExitsBy(n, literal) => {
-                return Answer {
-                    stop: Stop::ServiceBy(n, literal),
-                    steps: steps + 1,
-                    after,
-                };
-            }
-            End::Fails(fault) => {
-                return Answer {
-                    stop: Stop::Fault(fault),
-                    steps,
-                    after,
-                };
-            }
-            End::Mark => {
-                return Answer {
-                    stop: Stop::Mark,
-                    steps,
-                    after,
-                };
-            }
+            End::Exits(n) => return stopped(Stop::Service(n), steps + 1, after),
+            End::ExitsBy(n, literal) => return stopped(
+                Stop::ServiceBy(n, literal),
+                steps + 1,
+                after,
+            ),
+            End::Fails(fault) => return stopped(Stop::Fault(fault), steps, after),
+            End::Mark => return stopped(Stop::Mark, steps, after),
         }
     }
-    Answer {
-        stop: Stop::Budget,
-        steps,
-        after: r,
-    }
+    stopped(Stop::Budget, steps, r)
 }
 
 // A run with a budget.

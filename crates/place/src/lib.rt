@@ -77,16 +77,16 @@ fn is_terminator(page: &[u8], i: Instruction) -> bool
 }
 
 // Of a bundle's halfwords: the second is fit, if the bundle lies below the count.
-fn second_fits(page: &[u8], first: u16, second: u16) -> bool
-    ensures { λ t. ⌜ t ≡ secondFits (now (page .entry)) first second ⌝ }
+fn second_fits(page: &[u8], leading: u16, second: u16) -> bool
+    ensures { λ t. ⌜ t ≡ secondFits (now (page .entry)) leading second ⌝ }
 {
-    if isa::opens_32(first) {
+    if isa::opens_32(leading) {
         return false;
     }
     if isa::opens_32(second) {
         return false;
     }
-    !is_terminator(page, isa::decode16(first))
+    !is_terminator(page, isa::decode16(leading))
 }
 
 pub fn is_fit(page: &[u8], place: u16) -> bool
