@@ -144,14 +144,14 @@ fn reach_at(page: &[u8], k: u32) -> Reach
     let first = page::halfword(page, 2 * k);
     let second = page::halfword(page, 2 * k + 1);
     if isa::opens_32(first) {
-        return of_wide(isa::decode32(first, second), k + 1);
+        return of_wide(isa32::decode32(first, second), k + 1);
     }
     if isa::opens_32(second) {
         return Reach::Bad;
     }
     let place = (2 * k) as u16;
-    let i = isa::decode16(first);
-    let j = isa::decode16(second);
+    let i = isa16::decode16(first);
+    let j = isa16::decode16(second);
     after_first(
         flow_of(page, place, i),
         is_listed(j),

@@ -1,5 +1,1 @@
 pub mod Fields
-pub mod Patterns
-pub mod Lines
-pub mod Classes
-pub mod Masks

@@ -1,4 +1,3 @@
 pub mod Patterns
 pub mod ListedEncodings
-pub mod Classes
 pub mod Theorems

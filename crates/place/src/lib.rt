@@ -11,14 +11,14 @@ fn stands_in(even: bool, first: u16, second: u16) -> Instruction
 {
     if isa::opens_32(first) {
         if even {
-            return isa::decode32(first, second);
+            return isa32::decode32(first, second);
         }
         return Instruction::Unlisted;
     }
     if even {
-        isa::decode16(first)
+        isa16::decode16(first)
     } else {
-        isa::decode16(second)
+        isa16::decode16(second)
     }
 }
 
@@ -86,7 +86,7 @@ fn second_fits(page: &[u8], leading: u16, second: u16) -> bool
     if isa::opens_32(second) {
         return false;
     }
-    !is_terminator(page, isa::decode16(leading))
+    !is_terminator(page, isa16::decode16(leading))
 }
 
 pub fn is_fit(page: &[u8], place: u16) -> bool

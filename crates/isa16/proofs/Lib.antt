@@ -1,0 +1,4 @@
+pub mod Patterns
+pub mod Lines
+pub mod Classes
+pub mod Fields
