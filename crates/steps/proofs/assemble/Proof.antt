@@ -8,10 +8,10 @@ use Rattle.steps.proofs.assemble.Statement.{statement}
 use Rattle.steps.proofs.assemble.Tie as tie
 
 abbrev Inv-loop : tie.InvT-loop
-Inv-loop text page₀ k₀ page k = (k ≤ 64) × (length page ≡ length page₀)
+Inv-loop line page₀ k₀ page k = (k ≤ 64) × (length page ≡ length page₀)
 
 abbrev μ-loop : tie.MeasureT-loop
-μ-loop text page₀ k₀ page k = 64 - k
+μ-loop line page₀ k₀ page k = 64 - k
 
 loop-holds : tie.Need-loop-holds Inv-loop μ-loop
 loop-holds c = (omega arith, refl)
@@ -21,6 +21,9 @@ cast-i c = search needs
 
 mul-i : tie.Need-mul-i Inv-loop μ-loop
 mul-i c = search needs
+
+add-i : tie.Need-add-i Inv-loop μ-loop
+add-i c = search needs
 
 cast-result : tie.Need-cast-result Inv-loop μ-loop
 cast-result c = search needs
@@ -78,6 +81,7 @@ assemble-spec =
     loop-holds
     cast-i
     mul-i
+    add-i
     cast-result
     mul-result
     same-length

@@ -11,20 +11,11 @@ slice-aggregate-assemble c = search needs
 assemble-requires : tie.Need-assemble-requires
 assemble-requires c κs = search needs
 
-show-requires : tie.Need-show-requires
-show-requires c κs = search needs
-
-slice-aggregate-show : tie.Need-slice-aggregate-show
-slice-aggregate-show c = search needs
-
-show-requires-2 : tie.Need-show-requires-2
-show-requires-2 c κs = search needs
-
 array-share-prefix-page : tie.Need-array-share-prefix-page
 array-share-prefix-page c = search needs
 
 slice-aggregate-step : tie.Need-slice-aggregate-step
-slice-aggregate-step c = sym (length-take-le (c .before .before .before .before .before .assemble .result) (c .before .before .before .before .before .assemble .last .1 .0) (omega arith))
+slice-aggregate-step c = sym (length-take-le (c .before .before .assemble .result) (c .before .before .assemble .last .1 .0) (omega arith))
 
 slice-aggregate-step-2 : tie.Need-slice-aggregate-step-2
 slice-aggregate-step-2 c = search needs
@@ -47,9 +38,6 @@ step-spec =
     (tie.spec
     slice-aggregate-assemble
     assemble-requires
-    show-requires
-    slice-aggregate-show
-    show-requires-2
     array-share-prefix-page
     slice-aggregate-step
     slice-aggregate-step-2

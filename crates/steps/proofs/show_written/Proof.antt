@@ -2,8 +2,8 @@ use mathlib.Core.Path.{sym}
 use native.Mathlib.Omega.{arith}
 use lib.Seq.{length-take-le}
 use borrow.Author.Needs.{needs}
-use Rattle.steps.proofs.show_lines.Statement.{statement}
-use Rattle.steps.proofs.show_lines.Tie as tie
+use Rattle.steps.proofs.show_written.Statement.{statement}
+use Rattle.steps.proofs.show_written.Tie as tie
 
 bytes-written-requires : tie.Need-bytes-written-requires
 bytes-written-requires c κs = search needs
@@ -20,7 +20,7 @@ returns c = search needs
 returns-2 : tie.Need-returns-2
 returns-2 c = search needs
 
-pub show-lines-spec : {M : Type 1} → statement M
-show-lines-spec =
+pub show-written-spec : {M : Type 1} → statement M
+show-written-spec =
     tie.close
     (tie.spec bytes-written-requires slice-aggregate-show show-requires returns returns-2)
