@@ -6,7 +6,8 @@ use Rattle.memory.specs.declared.Fault.{Fault}
 use Rattle.state.specs.declared.Record.{Record}
 use Rattle.stop.specs.Stops.{Exit, Reason, budget, service, fault, mark}
 
--- an instruction goes on, or exits, with a record and RAM; or it faults, or nothing listed stands there, which changes nothing
+-- an instruction goes on, or exits, with a record and RAM; or it faults; or nothing listed stands there, which is the mark. The last
+-- two change nothing
 pub data Effect : Type 0 where
   goesOn : Record → List ℕ → Effect
   exits : Exit → Record → List ℕ → Effect
