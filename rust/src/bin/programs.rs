@@ -1,0 +1,203 @@
+//! Compares what a lister and a runner print with the second program, to the
+//! byte, on 01's own pages and on pages made from a seed.
+
+#![forbid(unsafe_code)]
+
+use std::fmt;
+use std::io::{self, ErrorKind, Write};
+use std::process::{Command, ExitCode, Stdio};
+
+use marshbodkin_check::paper;
+use marshbodkin_check::random::{self, DEFAULT_SEED};
+use marshbodkin_check::second::arith::{condition_passed, ConditionRule, Flags};
+use marshbodkin_check::second::machine::Stop;
+use marshbodkin_check::second::text;
+
+const USAGE: &str = "programs [--break lt-from-n] LISTER RUNNER [SEED [PAGES]]";
+const DEFAULT_PAGES: u64 = 400;
+
+/// What the command line asks for.
+struct Request {
+    lister: String,
+    runner: String,
+    seed: u64,
+    pages: u64,
+    rule: ConditionRule,
+}
+
+/// A mistake that must be found: LT (11) taken from N alone.
+fn lt_from_n(condition: u8, flags: Flags) -> bool {
+    match condition {
+        11 => flags.n,
+        _ => condition_passed(condition, flags),
+    }
+}
+
+/// Reads the command line.
+fn request(arguments: impl Iterator<Item = String>) -> Option<Request> {
+    let mut arguments = arguments.peekable();
+    let mut rule: ConditionRule = condition_passed;
+    if arguments.peek().is_some_and(|first| first == "--break") {
+        arguments.next();
+        if arguments.next()? != "lt-from-n" {
+            return None;
+        }
+        rule = lt_from_n;
+    }
+    let (lister, runner) = (arguments.next()?, arguments.next()?);
+    let mut number = |default| match arguments.next() {
+        None => Some(default),
+        Some(text) => text.parse().ok(),
+    };
+    let (seed, pages) = (number(DEFAULT_SEED)?, number(DEFAULT_PAGES)?);
+    arguments.next().is_none().then_some(Request {
+        lister,
+        runner,
+        seed,
+        pages,
+        rule,
+    })
+}
+
+/// How many stops of each kind were seen.
+#[derive(Default)]
+struct Tally {
+    pages: u64,
+    service: u64,
+    literal: u64,
+    faults: [u64; 6],
+    budget: u64,
+    refused: [u64; 8],
+}
+
+impl Tally {
+    /// Counts a page by the stop of its run.
+    fn add(&mut self, stop: Stop) {
+        self.pages += 1;
+        match stop {
+            Stop::Service { literal: None, .. } => self.service += 1,
+            Stop::Service { .. } => self.literal += 1,
+            Stop::Fault(fault) => self.faults[usize::from(fault.number()) - 1] += 1,
+            Stop::Budget => self.budget += 1,
+            Stop::Refused(number) => self.refused[usize::from(number) - 1] += 1,
+            Stop::Unlisted => {}
+        }
+    }
+}
+
+impl fmt::Display for Tally {
+    fn fmt(&self, f: &mut fmt::Formatter) -> fmt::Result {
+        write!(
+            f,
+            "pages {} refused {} stops: service {} service-with-literal {}",
+            self.pages,
+            self.refused.iter().sum::<u64>(),
+            self.service,
+            self.literal
+        )?;
+        for (fault, seen) in (1..).zip(self.faults) {
+            write!(f, " fault-{fault} {seen}")?;
+        }
+        write!(f, " budget {}", self.budget)?;
+        for number in [1, 5] {
+            write!(f, " refused-{number} {}", self.refused[number - 1])?;
+        }
+        Ok(())
+    }
+}
+
+/// What a program prints for a page on standard input. One that is ended by a
+/// signal is an error, whatever it printed.
+fn output(program: &str, page: &[u8]) -> io::Result<Vec<u8>> {
+    let mut child = Command::new(program)
+        .stdin(Stdio::piped())
+        .stdout(Stdio::piped())
+        .spawn()?;
+    if let Some(mut input) = child.stdin.take() {
+        match input.write_all(page) {
+            Err(error) if error.kind() != ErrorKind::BrokenPipe => return Err(error),
+            _ => {}
+        }
+    }
+    let done = child.wait_with_output()?;
+    match done.status.code() {
+        Some(_) => Ok(done.stdout),
+        None => Err(io::Error::other(format!("{program}: {}", done.status))),
+    }
+}
+
+/// The page as halfwords in hex, a comma after each bundle; an odd last byte
+/// stands alone.
+fn hex(page: &[u8]) -> String {
+    let bundle = |bytes: &[u8]| {
+        let halves: Vec<String> = bytes
+            .chunks(2)
+            .map(|half| match half {
+                [low, high] => format!("{high:02X}{low:02X}"),
+                _ => format!("{:02X}", half[0]),
+            })
+            .collect();
+        halves.join(" ")
+    };
+    page.chunks(4).map(bundle).collect::<Vec<_>>().join(", ")
+}
+
+/// A difference between a program and the second program.
+fn difference(program: &str, page: &[u8], expected: &str) -> io::Result<Option<String>> {
+    let printed = output(program, page)?;
+    Ok((printed != expected.as_bytes()).then(|| {
+        format!(
+            "page ({} bytes): {}\n{program} printed:\n{}second program:\n{expected}",
+            page.len(),
+            hex(page),
+            String::from_utf8_lossy(&printed),
+        )
+    }))
+}
+
+/// Compares both programs on one page, and counts it.
+fn compare(request: &Request, page: &[u8], tally: &mut Tally) -> io::Result<Option<String>> {
+    let answer = text::runner_answer(page, request.rule);
+    if let Some(found) = difference(&request.lister, page, &text::lister(page))? {
+        return Ok(Some(found));
+    }
+    if let Some(found) = difference(&request.runner, page, &text::answer(&answer))? {
+        return Ok(Some(found));
+    }
+    tally.add(answer.stop);
+    Ok(None)
+}
+
+/// Compares on all pages; the answer tells whether all were equal.
+fn compare_all(request: &Request) -> io::Result<bool> {
+    println!("seed {}", request.seed);
+    let mut tally = Tally::default();
+    let own = paper::PAGES
+        .iter()
+        .map(|page| (format!("fixed: {}", page.name), page.bytes()));
+    let made =
+        (0..request.pages).map(|number| (number.to_string(), random::page(request.seed, number)));
+    for (name, page) in own.chain(made) {
+        if let Some(found) = compare(request, &page, &mut tally)? {
+            println!("difference: seed {}, page {name}\n{found}", request.seed);
+            return Ok(false);
+        }
+    }
+    println!("{tally}");
+    Ok(true)
+}
+
+fn main() -> ExitCode {
+    let Some(request) = request(std::env::args().skip(1)) else {
+        eprintln!("usage: {USAGE}");
+        return ExitCode::from(2);
+    };
+    match compare_all(&request) {
+        Ok(true) => ExitCode::SUCCESS,
+        Ok(false) => ExitCode::from(1),
+        Err(error) => {
+            eprintln!("cannot compare: {error}");
+            ExitCode::from(2)
+        }
+    }
+}

@@ -1,0 +1,144 @@
+//! 01's "Successors and the count", by the definition.
+
+use super::decode::{narrow, opens_wide, wide, Instruction};
+use super::page::Page;
+use super::services::{literal_service, Service};
+
+/// The bundle reader's answer.
+#[derive(Clone, Copy, Debug, PartialEq, Eq)]
+pub enum Reading {
+    Bad,
+    NoSuccessor,
+    Largest(usize),
+}
+
+/// What one instruction of a bundle brings.
+struct Flow {
+    target: Option<usize>,
+    terminator: bool,
+}
+
+/// The successors of a bundle, or nothing if the bundle is bad.
+pub fn successors(page: Page, bundle: usize) -> Option<Vec<usize>> {
+    let (first, second) = page.bundle(bundle);
+    let next = bundle + 1;
+    if opens_wide(first) {
+        return wide(first, second).map(|_| vec![next]);
+    }
+    if opens_wide(second) {
+        return None;
+    }
+    let (first, second) = (narrow(first)?, narrow(second)?);
+    let start = flow(page, first, 4 * bundle)?;
+    let mut all: Vec<usize> = start.target.into_iter().collect();
+    if start.terminator {
+        return Some(all);
+    }
+    let rest = flow(page, second, 4 * bundle + 2)?;
+    all.extend(rest.target);
+    if !rest.terminator {
+        all.push(next);
+    }
+    Some(all)
+}
+
+/// The flow of a 16-bit instruction at an address, or nothing if bad.
+fn flow(page: Page, instruction: Instruction, address: usize) -> Option<Flow> {
+    match instruction {
+        Instruction::Branch { offset } => Some(Flow {
+            target: Some(target_bundle(address, offset)?),
+            terminator: true,
+        }),
+        Instruction::ConditionalBranch { offset, .. }
+        | Instruction::CompareBranch { offset, .. } => Some(Flow {
+            target: Some(target_bundle(address, offset)?),
+            terminator: false,
+        }),
+        Instruction::Service { service, .. } => Some(Flow {
+            target: None,
+            terminator: is_terminator(page, service)?,
+        }),
+        _ => Some(Flow {
+            target: None,
+            terminator: false,
+        }),
+    }
+}
+
+/// Whether a service ends the flow, or nothing if its literal is bad.
+fn is_terminator(page: Page, service: Service) -> Option<bool> {
+    let action = match service {
+        Service::Direct(action) => action,
+        Service::ByLiteral(number) => literal_service(page.word(number)?)?,
+    };
+    Some(action.is_terminator())
+}
+
+/// The byte address that a branch at `address` goes to; PC is `address` + 4.
+pub fn branch_target(address: usize, offset: i32) -> i64 {
+    address as i64 + 4 + i64::from(offset)
+}
+
+/// The bundle a branch goes to, or nothing where that makes the bundle bad.
+fn target_bundle(address: usize, offset: i32) -> Option<usize> {
+    let target = usize::try_from(branch_target(address, offset)).ok()?;
+    target.is_multiple_of(4).then_some(target / 4)
+}
+
+/// The reader's answer for a bundle of the page.
+pub fn read_bundle(page: Page, bundle: usize) -> Reading {
+    match successors(page, bundle) {
+        None => Reading::Bad,
+        Some(all) => match all.into_iter().max() {
+            None => Reading::NoSuccessor,
+            Some(largest) => Reading::Largest(largest),
+        },
+    }
+}
+
+/// The bundle reader with its refusals, 1 and 8; refused, the bundle is bad.
+pub fn read_bundle_of(bytes: &[u8], bundle: usize) -> (Reading, Option<u8>) {
+    match Page::new(bytes) {
+        None => (Reading::Bad, Some(1)),
+        Some(page) if bundle >= page.bundles() => (Reading::Bad, Some(8)),
+        Some(page) => (read_bundle(page, bundle), None),
+    }
+}
+
+/// True if the first `m` bundles are not bad and all lead below `m`.
+pub fn is_closed(page: Page, m: usize) -> bool {
+    (0..m).all(|bundle| {
+        successors(page, bundle).is_some_and(|all| all.iter().all(|&successor| successor < m))
+    })
+}
+
+/// The greatest closed prefix: every prefix is tried, the largest first.
+pub fn count(page: Page) -> usize {
+    (0..=page.bundles())
+        .rev()
+        .find(|&m| is_closed(page, m))
+        .unwrap_or(0)
+}
+
+/// The count with its refusal 1; refused, it is 0.
+pub fn count_of(bytes: &[u8]) -> (usize, Option<u8>) {
+    match Page::new(bytes) {
+        None => (0, Some(1)),
+        Some(page) => (count(page), None),
+    }
+}
+
+/// 01's "Fit place": below the count, and an odd place needs a bundle of two
+/// 16-bit instructions whose first is no terminator.
+pub fn is_fit_place(page: Page, place: usize) -> bool {
+    let bundle = place / 2;
+    if bundle >= count(page) {
+        return false;
+    }
+    let (first, _) = page.bundle(bundle);
+    let splits = || {
+        let start = narrow(first).and_then(|i| flow(page, i, 4 * bundle));
+        !opens_wide(first) && start.is_some_and(|flow| !flow.terminator)
+    };
+    place.is_multiple_of(2) || splits()
+}

@@ -1,0 +1,11 @@
+//! The second program: decoder, arithmetic, services, count, machine, text.
+
+pub mod arith;
+pub mod count;
+pub mod decode;
+pub mod machine;
+pub mod memory;
+pub mod page;
+pub mod record;
+pub mod services;
+pub mod text;

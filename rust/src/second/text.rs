@@ -1,0 +1,84 @@
+//! What the lister and the runner print for a page, to the byte.
+
+use super::arith::{condition_passed, ConditionRule, Flags};
+use super::count::{count, read_bundle, Reading};
+use super::machine::{run_by, Answer, Stop};
+use super::memory::RAM_SIZE;
+use super::page::Page;
+use super::record::Record;
+
+/// The runner's budget.
+pub const BUDGET: u32 = 100_000;
+
+/// The whole output of the lister.
+pub fn lister(bytes: &[u8]) -> String {
+    let Some(page) = Page::new(bytes) else {
+        return refused(1);
+    };
+    let count = count(page);
+    let mut text = format!("bundles {} count {count}\n", page.bundles());
+    for bundle in 0..page.bundles() {
+        text += &listed_bundle(page, bundle, count);
+    }
+    text
+}
+
+/// One line of the listing.
+fn listed_bundle(page: Page, bundle: usize, count: usize) -> String {
+    let (first, second) = page.bundle(bundle);
+    let side = if bundle < count { "ok" } else { "out" };
+    let successor = match read_bundle(page, bundle) {
+        Reading::Bad => "bad".to_string(),
+        Reading::NoSuccessor => "-".to_string(),
+        Reading::Largest(largest) => largest.to_string(),
+    };
+    format!("{bundle} {first:04X} {second:04X} {side} {successor}\n")
+}
+
+/// The run that the runner makes, by a rule for the conditions: fresh record,
+/// RAM of zero bytes, no external data.
+pub fn runner_answer(bytes: &[u8], rule: ConditionRule) -> Answer {
+    let mut ram = vec![0; RAM_SIZE];
+    run_by(rule, bytes, &mut ram, &[], &Record::fresh(), BUDGET)
+}
+
+/// The whole output of the runner.
+pub fn runner(bytes: &[u8]) -> String {
+    answer(&runner_answer(bytes, condition_passed))
+}
+
+/// The five lines of an answer, or the one of a refusal.
+pub fn answer(answer: &Answer) -> String {
+    let first = match answer.stop {
+        Stop::Refused(number) => return refused(number),
+        Stop::Service { low, literal: None } => format!("service {low:02X}"),
+        Stop::Service {
+            low,
+            literal: Some(word),
+        } => format!("service {low:02X} {word:08X}"),
+        Stop::Fault(fault) => format!("fault {}", fault.number()),
+        Stop::Budget => "budget".to_string(),
+        Stop::Unlisted => "unlisted".to_string(),
+    };
+    let registers = answer.record.registers.map(|value| format!("{value:08X}"));
+    format!(
+        "stop {first}\nsteps {}\nplace {}\nregs {}\nflags {}\n",
+        answer.steps,
+        answer.record.place,
+        registers.join(" "),
+        flags(answer.record.flags),
+    )
+}
+
+/// The flags N, Z, C, V as digits.
+fn flags(flags: Flags) -> String {
+    [flags.n, flags.z, flags.c, flags.v]
+        .map(|flag| if flag { '1' } else { '0' })
+        .iter()
+        .collect()
+}
+
+/// The line of a refusal.
+fn refused(number: u8) -> String {
+    format!("refused {number}\n")
+}
