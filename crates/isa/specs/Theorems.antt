@@ -9,6 +9,7 @@ use lib.Dec.{eqb}
 use lib.ListN.{length}
 use borrow.Author.Tests.{eqb-true}
 use Rattle.laws.specs.Tests.{both, either, fails}
+use Rattle.laws.specs.Runs.{every}
 use Rattle.bits.specs.Fields.{bit}
 use Rattle.isa.specs.Patterns.{Bit, O, I, x, agrees, matches}
 use Rattle.isa.specs.ListedEncodings.{Row, row, decodeBy, listed16, listed32}
@@ -115,3 +116,13 @@ number16 = refl
 
 pub number32 : numberIn listed32 ≡ 1475584
 number32 = refl
+
+-- ---- the ruling on 1101xxxx: DExx is undefined in the manual, and no row matches it
+
+abbrev pub matchesAny : List Row → ℕ → Bool
+matchesAny [] w = false
+matchesAny (row p m ∷ rows) w = matches p w || matchesAny rows w
+
+pub de-unlisted : every (λ h. not (matchesAny listed16 h)) 0xDE00 256 ≡ true
+unfolding matches
+de-unlisted = refl
