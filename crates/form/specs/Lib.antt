@@ -1,5 +1,4 @@
-pub mod StoredForm
-pub mod Laws
+pub mod Storing
 pub mod Ranges
 pub mod Verdicts
 pub mod Theorems

@@ -12,7 +12,8 @@ use Rattle.refusal.specs.declared.Verdict.{Verdict}
 use Rattle.refusal.specs.declared.Verdict.the-variants.{Accepted, Refused}
 use Rattle.state.specs.Record.{freshRecord}
 use Rattle.state.specs.declared.Record.{Record}
-use Rattle.form.specs.StoredForm.{storedForm, encode, decode, valuesOf, recordOf, storeVerdict, roomAfter, loadRecord}
+use Rattle.layout.specs.StoredForm.{recordBytes, recordIn}
+use Rattle.form.specs.Storing.{storeVerdict, roomAfter, loadRecord}
 
 -- to so many bytes, and to values that pass the range tests or not
 abbrev pub answer : ℕ → Bool → Verdict
@@ -39,11 +40,11 @@ passed n t e = let p = passes (eqb n 44) t e in (eqb-true n 44 (p .0), p .1)
 -- ---- what a call gives
 
 pub room-after : (r : Record) (room : List ℕ) (v : Verdict) → v ≡ storeVerdict r room
-    → whenAccepted v (encode storedForm (valuesOf r)) room ≡ roomAfter r room
-room-after r room v e = ap (λ (w : Verdict). whenAccepted w (encode storedForm (valuesOf r)) room) e
+    → whenAccepted v (recordBytes r) room ≡ roomAfter r room
+room-after r room v e = ap (λ (w : Verdict). whenAccepted w (recordBytes r) room) e
 
 pub loaded : (bytes : List ℕ) (v : Verdict) (s : Record) → v ≡ loadRecord bytes .verdict
-    → s ≡ whenAccepted v (recordOf (decode storedForm bytes)) freshRecord → record { verdict = v; loaded = s } ≡ loadRecord bytes
+    → s ≡ whenAccepted v (recordIn bytes) freshRecord → record { verdict = v; loaded = s } ≡ loadRecord bytes
 loaded bytes v s e same =
     ap (λ (w : Record). record { verdict = v; loaded = w }) same
-    ∙ ap (λ (w : Verdict). record { verdict = w; loaded = whenAccepted w (recordOf (decode storedForm bytes)) freshRecord }) e
+    ∙ ap (λ (w : Verdict). record { verdict = w; loaded = whenAccepted w (recordIn bytes) freshRecord }) e

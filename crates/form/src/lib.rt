@@ -1,72 +1,16 @@
-// The stored form of a record: 44 bytes. A record is thirteen values, and a value goes to the bytes of its field.
+// Storing a record and reading it back: 44 bytes, and the range of each value.
 ghost use mathlib.Core.Path.{_≡_};
-ghost use mathlib.Core.Bool.{true, _&&_};
-ghost use Prim.Native.Nat.{_<_};
-ghost use lib.ListN.{length};
-ghost use Rattle.bits.specs.Fields.{bit};
-ghost use Rattle.endian.specs.LittleEndian.{widthOf};
-ghost use Rattle.form.specs.StoredForm.{kindInRange, offsetInRange, storedForm, encode, decode, valuesInRange};
-ghost use Rattle.form.specs.StoredForm.{kindOf, offsetOf, baseOf, bitOf, flagsNumber, flagsOf, valuesOf, recordOf};
-ghost use Rattle.form.specs.StoredForm.{storeVerdict, roomAfter, loadRecord};
-ghost use Rattle.form.specs.Laws.{widthAt};
-use arm::Flags;
-use endian::Size;
+ghost use mathlib.Core.Bool.{_&&_};
+ghost use Rattle.layout.specs.StoredForm.{kindInRange, offsetInRange, valuesInRange};
+ghost use Rattle.form.specs.Storing.{storeVerdict, roomAfter, loadRecord};
 use refusal::Refusal;
 use refusal::Verdict;
-use state::Base;
 use state::Record;
 
 // What reading back answers.
 pub struct Loaded {
     pub verdict: Verdict,
     pub loaded: Record,
-}
-
-// ---- values to bytes and back
-
-// The size of a field.
-fn size_of(i: usize) -> Size
-    requires { ⌜ i < 13 ⌝ }
-    ensures { λ size. ⌜ widthOf size ≡ widthAt storedForm i ⌝ }
-{
-    match i {
-        9 | 12 => Size::Byte,
-        11 => Size::Halfword,
-        _ => Size::Word,
-    }
-}
-
-// The values go to the room, one after the other.
-fn write(values: [u32; 13], room: &mut [u8])
-    requires { ⌜ length (now room) ≡ 44 ⌝ }
-    ensures { λ _. ⌜ now (room .exit) ≡ encode storedForm values ⌝ }
-{
-    let mut at: u32 = 0;
-    let mut i: usize = 0;
-    while i < 13 {
-        let size = size_of(i);
-        let x = values[i];
-        endian::store(&mut *room, at, size, x);
-        at += endian::width(size) as u32;
-        i += 1;
-    }
-}
-
-// The values that the bytes hold.
-fn read(bytes: &[u8]) -> [u32; 13]
-    ensures { λ values. ⌜ values ≡ decode storedForm (now (bytes .entry)) ⌝ }
-{
-    let mut values = [0u32; 13];
-    let mut at: u32 = 0;
-    let mut i: usize = 0;
-    while i < 13 {
-        let size = size_of(i);
-        let x = endian::load(bytes, at, size);
-        values[i] = x;
-        at += endian::width(size) as u32;
-        i += 1;
-    }
-    values
 }
 
 // ---- the range
@@ -97,120 +41,6 @@ fn in_range(values: [u32; 13]) -> bool
     values[12] <= 15
 }
 
-// ---- a record to values and back
-
-fn kind_of(base: Base) -> u32
-    ensures { λ kind. ⌜ kind ≡ kindOf base ⌝ }
-{
-    match base {
-        Base::Nothing => 0,
-        Base::Ram(_) => 1,
-        Base::External(_) => 2,
-    }
-}
-
-fn offset_of(base: Base) -> u32
-    ensures { λ offset. ⌜ offset ≡ offsetOf base ⌝ }
-{
-    match base {
-        Base::Nothing => 0,
-        Base::Ram(offset) => offset,
-        Base::External(offset) => offset,
-    }
-}
-
-fn base_of(kind: u32, offset: u32) -> Base
-    ensures { λ base. ⌜ base ≡ baseOf kind offset ⌝ }
-{
-    match kind {
-        0 => Base::Nothing,
-        1 => Base::Ram(offset),
-        _ => Base::External(offset),
-    }
-}
-
-fn bit_of(t: bool) -> u32
-    ensures { λ x. ⌜ x ≡ bitOf t ⌝ }
-{
-    if t { 1 } else { 0 }
-}
-
-fn is_set(x: u32, n: u32) -> bool
-    ensures { λ t. ⌜ t ≡ bit x n ⌝ }
-{
-    bits::field(x, n, 1) == 1
-}
-
-// 8N + 4Z + 2C + V
-fn flags_number(f: Flags) -> u32
-    ensures { λ x. ⌜ x ≡ flagsNumber f ⌝ }
-{
-    8 * bit_of(f.n) + 4 * bit_of(f.z) + 2 * bit_of(f.c) + bit_of(f.v)
-}
-
-fn flags_of(x: u32) -> Flags
-    ensures { λ f. ⌜ f ≡ flagsOf x ⌝ }
-{
-    Flags {
-        n: is_set(x, 3),
-        z: is_set(x, 2),
-        c: is_set(x, 1),
-        v: is_set(x, 0),
-    }
-}
-
-fn values_of(r: Record) -> [u32; 13]
-    ensures { λ values. ⌜ values ≡ valuesOf r ⌝ }
-{
-    let regs = r.regs;
-    let base = r.base;
-    let flags = r.flags;
-    let kind = kind_of(base);
-    let offset = offset_of(base);
-    let place = r.place as u32;
-    let number = flags_number(flags);
-    [
-        regs[0],
-        regs[1],
-        regs[2],
-        regs[3],
-        regs[4],
-        regs[5],
-        regs[6],
-        regs[7],
-        r.sp,
-        kind,
-        offset,
-        place,
-        number,
-    ]
-}
-
-fn record_of(values: [u32; 13]) -> Record
-    requires { ⌜ valuesInRange values ≡ true ⌝ }
-    ensures { λ r. ⌜ r ≡ recordOf values ⌝ }
-{
-    let regs = [
-        values[0],
-        values[1],
-        values[2],
-        values[3],
-        values[4],
-        values[5],
-        values[6],
-        values[7],
-    ];
-    let base = base_of(values[9], values[10]);
-    let flags = flags_of(values[12]);
-    Record {
-        regs,
-        sp: values[8],
-        flags,
-        place: values[11] as u16,
-        base,
-    }
-}
-
 // ---- storing and reading back
 
 // Writes a record to room of 44 bytes.
@@ -220,11 +50,10 @@ pub fn store(r: Record, room: &mut [u8]) -> Verdict
     if room.len() != 44 {
         return Verdict::Refused(Refusal::FormLength);
     }
-    let values = values_of(r);
-    if !in_range(values) {
+    if !in_range(layout::values_of(r)) {
         return Verdict::Refused(Refusal::FormRange);
     }
-    write(values, &mut *room);
+    layout::write(r, &mut *room);
     Verdict::Accepted
 }
 
@@ -238,8 +67,7 @@ pub fn load(bytes: &[u8]) -> Loaded
             loaded: state::fresh_record(),
         };
     }
-    let values = read(bytes);
-    if !in_range(values) {
+    if !in_range(layout::values_in(bytes)) {
         return Loaded {
             verdict: Verdict::Refused(Refusal::FormRange),
             loaded: state::fresh_record(),
@@ -247,6 +75,6 @@ pub fn load(bytes: &[u8]) -> Loaded
     }
     Loaded {
         verdict: Verdict::Accepted,
-        loaded: record_of(values),
+        loaded: layout::record_in(bytes),
     }
 }

@@ -5,7 +5,7 @@ use borrow.Author.Tests.{not-true, not-false}
 use borrow.Author.Needs.{needs}
 use Rattle.refusal.specs.declared.Refusal.the-variants.{FormLength, FormRange}
 use Rattle.refusal.specs.declared.Verdict.the-variants.{Accepted, Refused}
-use Rattle.form.specs.StoredForm.{storedForm, decode, valuesInRange, recordOf}
+use Rattle.layout.specs.StoredForm.{storedForm, decode, valuesInRange}
 use Rattle.form.specs.Verdicts.{other-length, out-of-range, accepted, loaded}
 use Rattle.form.proofs.load.Statement.{statement}
 use Rattle.form.proofs.load.Tie as tie
@@ -18,8 +18,8 @@ returns c =
     let bytes = c .before .before .before .args .bytes .now in
     loaded bytes (Refused FormLength) (c .fresh-record .result) (other-length (length bytes) (valuesInRange (decode storedForm bytes)) (c .before .if1 .taken)) (c .fresh-record .ensures)
 
-read-requires : tie.Need-read-requires
-read-requires c κs = search needs
+values-in-requires : tie.Need-values-in-requires
+values-in-requires c κs = search needs
 
 in-range-requires : tie.Need-in-range-requires
 in-range-requires c κs = search needs
@@ -31,18 +31,18 @@ returns-2 : tie.Need-returns-2
 returns-2 c =
     let bytes = c .before .before .before .before .before .before .args .bytes .now in
     let t : valuesInRange (decode storedForm bytes) ≡ false =
-    sym (ap valuesInRange (c .before .before .before .read .ensures)) ∙ sym (c .before .before .in-range .ensures) ∙ not-true _ (c .before .if2 .taken) in
+    sym (ap valuesInRange (c .before .before .before .values-in .ensures)) ∙ sym (c .before .before .in-range .ensures) ∙ not-true _ (c .before .if2 .taken) in
     loaded bytes (Refused FormRange) (c .fresh-record2 .result) (out-of-range (length bytes) (valuesInRange (decode storedForm bytes)) (c .before .before .before .before .if1 .left) t) (c .fresh-record2 .ensures)
 
-record-of-requires : tie.Need-record-of-requires
-record-of-requires c κs = sym (c .before .in-range .ensures) ∙ not-false _ (c .if2 .left)
+record-in-requires : tie.Need-record-in-requires
+record-in-requires c κs = search needs
 
 returns-3 : tie.Need-returns-3
 returns-3 c =
     let bytes = c .before .before .before .before .before .before .args .bytes .now in
-    let same = c .before .before .before .read .ensures in
-    let t : valuesInRange (decode storedForm bytes) ≡ true = sym (ap valuesInRange same) ∙ sym (c .before .before .in-range .ensures) ∙ not-false _ (c .before .if2 .left) in
-    loaded bytes Accepted (c .record-of .result) (accepted (length bytes) (valuesInRange (decode storedForm bytes)) (c .before .before .before .before .if1 .left) t) (c .record-of .ensures ∙ ap recordOf same)
+    let t : valuesInRange (decode storedForm bytes) ≡ true =
+    sym (ap valuesInRange (c .before .before .before .values-in .ensures)) ∙ sym (c .before .before .in-range .ensures) ∙ not-false _ (c .before .if2 .left) in
+    loaded bytes Accepted (c .record-in .result) (accepted (length bytes) (valuesInRange (decode storedForm bytes)) (c .before .before .before .before .if1 .left) t) (c .record-in .ensures)
 
 pub load-spec : {M : Type 1} → statement M
 load-spec =
@@ -50,9 +50,9 @@ load-spec =
     (tie.spec
     fresh-record-requires
     returns
-    read-requires
+    values-in-requires
     in-range-requires
     fresh-record-requires-2
     returns-2
-    record-of-requires
+    record-in-requires
     returns-3)

@@ -1,11 +1,11 @@
 use mathlib.Core.Path.{_≡_, sym, ap, _∙_}
-use mathlib.Core.Bool.{true, false}
+use mathlib.Core.Bool.{Bool, true, false, cond}
 use lib.ListN.{length}
-use borrow.Author.Tests.{not-true, not-false}
+use borrow.Author.Tests.{not-true, not-false, eq-eqb}
 use borrow.Author.Needs.{needs}
 use Rattle.refusal.specs.declared.Refusal.the-variants.{FormLength, FormRange}
 use Rattle.refusal.specs.declared.Verdict.the-variants.{Accepted, Refused}
-use Rattle.form.specs.StoredForm.{storedForm, encode, valuesInRange, valuesOf}
+use Rattle.layout.specs.StoredForm.{valuesInRange, valuesOf, recordBytes}
 use Rattle.form.specs.Verdicts.{other-length, out-of-range, accepted, room-after}
 use Rattle.form.proofs.store.Statement.{statement}
 use Rattle.form.proofs.store.Tie as tie
@@ -39,10 +39,13 @@ same-length c = search needs
 returns-3 : tie.Need-returns-3
 returns-3 c =
     let s = c .before .before .before .before .before .before .before .before .before .args in
-    let same = c .before .before .before .before .before .before .values-of .ensures in
-    let t : valuesInRange (valuesOf (s .r)) ≡ true = sym (ap valuesInRange same) ∙ sym (c .before .before .before .before .before .in-range .ensures) ∙ not-false _ (c .before .before .before .before .if2 .left) in
-    let e = accepted (length (s .room .now)) (valuesInRange (valuesOf (s .r))) (c .before .before .before .before .before .before .before .if1 .left) t in
-    (e, c .before .before .write .ensures ∙ ap (encode storedForm) same ∙ room-after (s .r) (s .room .now) Accepted e)
+    let room = s .room .now in
+    let long = c .before .before .before .before .before .before .before .if1 .left in
+    let t : valuesInRange (valuesOf (s .r)) ≡ true =
+    sym (ap valuesInRange (c .before .before .before .before .before .before .values-of .ensures)) ∙ sym (c .before .before .before .before .before .in-range .ensures) ∙ not-false _ (c .before .before .before .before .if2 .left) in
+    let e = accepted (length room) (valuesInRange (valuesOf (s .r))) long t in
+    let written = ap (λ (t : Bool). cond t (recordBytes (s .r)) room) (eq-eqb (length room) 44 long) in
+    (e, c .before .before .write .ensures ∙ written ∙ room-after (s .r) room Accepted e)
 
 pub store-spec : {M : Type 1} → statement M
 store-spec =

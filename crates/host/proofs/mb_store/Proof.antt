@@ -1,0 +1,42 @@
+use mathlib.Core.Path.{sym, _∙_}
+use borrow.Author.Tests.{not-true, not-false}
+use borrow.Author.Needs.{needs}
+use Rattle.host.proofs.mb_store.Statement.{statement}
+use Rattle.host.proofs.mb_store.Tie as tie
+
+holds-record-requires : tie.Need-holds-record-requires
+holds-record-requires c κs = search needs
+
+returns : tie.Need-returns
+returns c = let none = sym (c .before .holds-record .ensures) ∙ not-true _ (c .if1 .taken) in (rw none, rw none)
+
+record-in-requires : tie.Need-record-in-requires
+record-in-requires c κs = search needs
+
+store-requires : tie.Need-store-requires
+store-requires c κs = search needs
+
+code-of-requires : tie.Need-code-of-requires
+code-of-requires c κs = search needs
+
+same-length : tie.Need-same-length
+same-length c = search needs
+
+returns-2 : tie.Need-returns-2
+returns-2 c =
+    let d = c .before .before .before in
+    let held = sym (d .before .before .before .before .holds-record .ensures) ∙ not-false _ (d .before .before .before .if1 .left) in
+    let same = d .before .before .record-in .ensures in
+    (rw (held, c .code-of .ensures, d .store .ensures .0, same), rw (held, d .store .ensures .1, same))
+
+pub mb-store-spec : {M : Type 1} → statement M
+mb-store-spec =
+    tie.close
+    (tie.spec
+    holds-record-requires
+    returns
+    record-in-requires
+    store-requires
+    code-of-requires
+    same-length
+    returns-2)

@@ -1,0 +1,3 @@
+pub mod StoredForm
+pub mod Laws
+pub mod Theorems
