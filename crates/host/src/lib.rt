@@ -1,6 +1,7 @@
 // The calls that a host links, in C's way: each answers 0 or a refusal's number, and gives the rest in lent numbers and bytes.
 // A record crosses as its 44 bytes, fit or not.
 ghost use mathlib.Core.Path.{_≡_};
+ghost use mathlib.Core.Bool.{cond};
 ghost use lib.ListN.{length};
 ghost use Rattle.state.specs.Record.{freshRecord};
 ghost use Rattle.state.specs.Validation.{validateBase};
@@ -9,7 +10,7 @@ ghost use Rattle.count.specs.Count.{countPage};
 ghost use Rattle.bundle.specs.Reader.{readBundle};
 ghost use Rattle.layout.specs.StoredForm.{kindOf, offsetOf, roomWith};
 ghost use Rattle.form.specs.Storing.{loadRecord};
-ghost use Rattle.host.specs.Crossing.{codeOf, reachKind, reachLargest, roomCode, storeCode, storedRoom};
+ghost use Rattle.host.specs.Crossing.{codeOf, noRecord, reachKind, reachLargest, roomCode, storeCode, storedRoom};
 ghost use Rattle.host.specs.HostRuns.{stopNumbers, hostRun};
 use prefix::Reach;
 use refusal::Verdict;
@@ -23,6 +24,9 @@ struct StopNumbers {
     literal: u32,
 }
 
+// The number that answers bytes which hold no record, and room that takes none.
+const NO_RECORD: u32 = 255;
+
 // ---- numbers of the answers
 
 fn code_of(verdict: Verdict) -> u32
@@ -32,6 +36,13 @@ fn code_of(verdict: Verdict) -> u32
         Verdict::Accepted => 0,
         Verdict::Refused(why) => refusal::number(why) as u32,
     }
+}
+
+// The code of a call that gives a record, if there was room for it.
+fn room_code(written: bool, code: u32) -> u32
+    ensures { λ c. ⌜ c ≡ cond written code noRecord ⌝ }
+{
+    if written { code } else { NO_RECORD }
 }
 
 fn reach_kind(reach: Reach) -> u32
@@ -134,11 +145,7 @@ pub extern "C" fn mb_validate(v: u32, external: &[u8], kind: &mut u32, offset: &
 pub extern "C" fn mb_fresh(bytes: &mut [u8]) -> u32
     ensures { λ code. ⌜ (code ≡ roomCode (now (bytes .entry)) 0) × (now (bytes .exit) ≡ roomWith freshRecord (now (bytes .entry))) ⌝ }
 {
-    if bytes.len() != 44 {
-        return 255;
-    }
-    layout::write(state::fresh_record(), bytes);
-    0
+    room_code(layout::write(state::fresh_record(), bytes), 0)
 }
 
 // Stores a record.
@@ -148,7 +155,7 @@ pub extern "C" fn mb_store(bytes: &[u8], room: &mut [u8]) -> u32
         × (now (room .exit) ≡ storedRoom (now (bytes .entry)) (now (room .entry))) ⌝ }
 {
     if !layout::holds_record(bytes) {
-        return 255;
+        return NO_RECORD;
     }
     code_of(form::store(layout::record_in(bytes), room))
 }
@@ -159,14 +166,10 @@ pub extern "C" fn mb_load(stored: &[u8], bytes: &mut [u8]) -> u32
     ensures { λ code. ⌜ (code ≡ roomCode (now (bytes .entry)) (codeOf (loadRecord (now (stored .entry)) .verdict)))
         × (now (bytes .exit) ≡ roomWith (loadRecord (now (stored .entry)) .loaded) (now (bytes .entry))) ⌝ }
 {
-    if bytes.len() != 44 {
-        return 255;
-    }
     let answer = form::load(stored);
     let verdict = answer.verdict;
     let loaded = answer.loaded;
-    layout::write(loaded, bytes);
-    code_of(verdict)
+    room_code(layout::write(loaded, bytes), code_of(verdict))
 }
 
 // ---- steps and runs
@@ -194,10 +197,10 @@ pub extern "C" fn mb_run(
 {
     if !layout::holds_record(&bytes[..]) {
         *kind = 5;
-        *value = 255;
+        *value = NO_RECORD;
         *literal = 0;
         *steps = 0;
-        return 255;
+        return NO_RECORD;
     }
     let answer = machine::run(page, ram, external, layout::record_in(&bytes[..]), budget);
     let stop = answer.stop;

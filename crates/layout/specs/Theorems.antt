@@ -7,7 +7,7 @@ use native.Mathlib.Omega.{arith}
 use lib.Dec.{eqb, leb}
 use lib.ListN.{length, getD, take, drop, length-append, length-drop, take-append-drop}
 use lib.Seq.{take-all}
-use borrow.Author.Tests.{eqb-true, leb-true}
+use borrow.Author.Tests.{eqb-true, leb-true, eq-eqb, le-leb}
 use Rattle.laws.specs.Runs.{run}
 use Rattle.laws.specs.Tests.{both}
 use Rattle.arm.specs.declared.Flags.{Flags}
@@ -59,6 +59,11 @@ numbers-back (suc zero) offset t = (refl, refl)
 numbers-back (suc (suc zero)) offset t = (refl, refl)
 numbers-back (suc (suc (suc kind))) offset t = absurd (true≢false (sym t))
 
+own-stands : (b : Base) → baseStands (kindOf b) (offsetOf b) ≡ true
+own-stands Nothing = refl
+own-stands (Ram offset) = refl
+own-stands (External offset) = refl
+
 -- ---- a record and its values
 
 record-back : (r : Record) → length (r .regs) ≡ 8 → recordOf (valuesOf r) ≡ r
@@ -66,6 +71,12 @@ record-back r l =
     let e = whole 8 (r .regs) l in
     let more = r .sp ∷ kindOf (r .base) ∷ offsetOf (r .base) ∷ r .place ∷ flagsNumber (r .flags) ∷ [] in
     ap (λ (regs : List ℕ). recordOf (regs ++ more)) (sym e) ∙ rw (e, base-back (r .base), flags-back (r .flags))
+
+own-values : (r : Record) → length (r .regs) ≡ 8 → isRecord (valuesOf r) ≡ true
+own-values r l =
+    let more = r .sp ∷ kindOf (r .base) ∷ offsetOf (r .base) ∷ r .place ∷ flagsNumber (r .flags) ∷ [] in
+    subst (λ (regs : List ℕ). isRecord (regs ++ more) ≡ true) (whole 8 (r .regs) l)
+    (rw (own-stands (r .base), le-leb (flagsNumber (r .flags)) 15 (number-small (r .flags))))
 
 values-back : (values : List ℕ) → length values ≡ 13 → isRecord values ≡ true → valuesOf (recordOf values) ≡ values
 values-back values l t =
@@ -100,6 +111,10 @@ module _ (r : Record) (h : Held r) where
 
   pub record-length : length (recordBytes r) ≡ 44
   record-length = length-encode storedForm (valuesOf r) fits
+
+  -- so every record can cross, fit or not
+  pub record-holds : holdsRecord (recordBytes r) ≡ true
+  record-holds = rw (eq-eqb (length (recordBytes r)) 44 record-length) (ap isRecord values-kept ∙ own-values r (h .eight))
 
 module _ (bytes : List ℕ) (t : isRecord (decode storedForm bytes) ≡ true) where
   pub same-values : valuesOf (recordIn bytes) ≡ decode storedForm bytes

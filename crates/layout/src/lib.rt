@@ -1,6 +1,7 @@
 // The 44 bytes of a record. A record is thirteen values, and a value goes to the bytes of its field.
 ghost use mathlib.Core.Path.{_≡_};
 ghost use Prim.Native.Nat.{_<_, _^_};
+ghost use lib.Dec.{eqb};
 ghost use lib.ListN.{length, getD};
 ghost use Rattle.bits.specs.Fields.{bit};
 ghost use Rattle.endian.specs.LittleEndian.{widthOf};
@@ -179,13 +180,15 @@ fn record_of(values: [u32; 13]) -> Record
 
 // ---- the bytes of a record
 
-// The record goes to room of 44 bytes, and to no other.
-pub fn write(r: Record, room: &mut [u8])
-    ensures { λ _. ⌜ now (room .exit) ≡ roomWith r (now (room .entry)) ⌝ }
+// The record goes to room of 44 bytes, and to no other; whether it does.
+pub fn write(r: Record, room: &mut [u8]) -> bool
+    ensures { λ t. ⌜ (t ≡ eqb (length (now (room .entry))) 44) × (now (room .exit) ≡ roomWith r (now (room .entry))) ⌝ }
 {
-    if room.len() == 44 {
-        write_values(values_of(r), room);
+    if room.len() != 44 {
+        return false;
     }
+    write_values(values_of(r), room);
+    true
 }
 
 // The record that the bytes hold.

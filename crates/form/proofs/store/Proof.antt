@@ -45,7 +45,7 @@ returns-3 c =
     sym (ap valuesInRange (c .before .before .before .before .before .before .values-of .ensures)) ∙ sym (c .before .before .before .before .before .in-range .ensures) ∙ not-false _ (c .before .before .before .before .if2 .left) in
     let e = accepted (length room) (valuesInRange (valuesOf (s .r))) long t in
     let written = ap (λ (t : Bool). cond t (recordBytes (s .r)) room) (eq-eqb (length room) 44 long) in
-    (e, c .before .before .write .ensures ∙ written ∙ room-after (s .r) room Accepted e)
+    (e, c .before .before .write .ensures .1 ∙ written ∙ room-after (s .r) room Accepted e)
 
 pub store-spec : {M : Type 1} → statement M
 store-spec =

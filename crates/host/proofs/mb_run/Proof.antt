@@ -37,7 +37,7 @@ returns-2 c =
     let d = c .before .before .before .before .before .before .before .before in
     let s = d .before .before .before .before .before .before .before .before .before .before .before .args in
     let held = sym (d .before .before .before .before .before .holds-record .ensures) ∙ not-false _ (d .before .before .before .before .if1 .left) in
-    crosses (s .page .now) (s .external .now) (s .bytes .now) (s .ram .now) (s .budget) (d .before .record-in .result) (d .run .result) (c .numbers-of .result) _ _ held (d .before .record-in .ensures) (d .run .ensures) (c .numbers-of .ensures) (c .before .before .before .write .ensures)
+    crosses (s .page .now) (s .external .now) (s .bytes .now) (s .ram .now) (s .budget) (d .before .record-in .result) (d .run .result) (c .numbers-of .result) _ _ held (d .before .record-in .ensures) (d .run .ensures) (c .numbers-of .ensures) (c .before .before .before .write .ensures .1)
 
 pub mb-run-spec : {M : Type 1} → statement M
 mb-run-spec =

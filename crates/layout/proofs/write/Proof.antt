@@ -3,6 +3,9 @@ use borrow.Author.Needs.{needs}
 use Rattle.layout.proofs.write.Statement.{statement}
 use Rattle.layout.proofs.write.Tie as tie
 
+returns : tie.Need-returns
+returns c = let short = ne-eqb _ _ (c .if1 .taken) in (rw short, rw short)
+
 values-of-requires : tie.Need-values-of-requires
 values-of-requires c κs = search needs
 
@@ -12,12 +15,11 @@ write-values-requires c κs = search needs
 same-length : tie.Need-same-length
 same-length c = search needs
 
-returns : tie.Need-returns
-returns c = rw (c .before .before .write-values .ensures, c .before .before .before .before .values-of .ensures, eq-eqb _ _ (c .before .before .before .before .before .if1 .taken))
-
 returns-2 : tie.Need-returns-2
-returns-2 c = rw (ne-eqb _ _ (c .if1 .left))
+returns-2 c =
+    let long = eq-eqb _ _ (c .before .before .before .before .before .if1 .left) in
+    (rw long, rw (c .before .before .write-values .ensures, c .before .before .before .before .values-of .ensures, long))
 
 pub write-spec : {M : Type 1} → statement M
 write-spec =
-    tie.close (tie.spec values-of-requires write-values-requires same-length returns returns-2)
+    tie.close (tie.spec returns values-of-requires write-values-requires same-length returns-2)

@@ -1,0 +1,25 @@
+-- What the host can rely on beyond single calls. Assumes nothing.
+use Prim.Native.Nat.{ℕ, _<_}
+use mathlib.Core.Bool.{true}
+use mathlib.Core.List.{List}
+use mathlib.Core.Path.{_≡_, ap}
+use borrow.Author.Tests.{eqb-true}
+use lib.Dec.{eqb}
+use lib.ListN.{length, getD}
+use Rattle.laws.specs.Tests.{both}
+use Rattle.refusal.specs.Refusals.{numberOf}
+use Rattle.refusal.specs.declared.Refusal.{Refusal}
+use Rattle.refusal.specs.declared.Verdict.the-variants.{Refused}
+use Rattle.stop.specs.Stops.{refused}
+use Rattle.admission.specs.RunRefusals.{runVerdict}
+use Rattle.layout.specs.StoredForm.{storedForm, decode, recordIn, isRecord, holdsRecord}
+use Rattle.layout.specs.Theorems.{bytes-kept}
+use Rattle.host.specs.HostRuns.{stopNumbers, hostRun}
+
+-- a run that is refused leaves every byte of the record and of RAM
+pub refused-keeps : (page external bytes ram : List ℕ) (total : ℕ) (why : Refusal) → holdsRecord bytes ≡ true → ((k : ℕ) → getD bytes k 0 < 256)
+    → runVerdict page external (recordIn bytes) ram ≡ Refused why
+    → hostRun page external total bytes ram ≡ record { stop = stopNumbers (refused (numberOf why)); steps = 0; bytes = bytes; ram = ram }
+refused-keeps page external bytes ram total why holds h e =
+    let p = both (eqb (length bytes) 44) (isRecord (decode storedForm bytes)) holds in
+    rw (holds, e, bytes-kept bytes (p .1) (eqb-true (length bytes) 44 (p .0)) h)
