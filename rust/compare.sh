@@ -1,6 +1,6 @@
 #!/bin/sh
-# Compares a lister and a runner with the second program, and shows that the
-# comparison can fail: compare.sh LISTER RUNNER [SEED [PAGES]]
+# Compares a lister, a runner and the library with the second program, and
+# shows that each comparison can fail: compare.sh LISTER RUNNER [SEED [PAGES]]
 set -eu
 if [ "$#" -lt 2 ]; then
     echo "usage: compare.sh LISTER RUNNER [SEED [PAGES]]" >&2
@@ -11,13 +11,23 @@ runner=$(realpath "$2")
 shift 2
 cd "$(dirname "$0")"
 cargo build --release --offline --quiet
-./target/release/programs "$lister" "$runner" "$@"
 
-# The same with LT taken from N alone: this must end with status 1.
-status=0
-./target/release/programs --break lt-from-n "$lister" "$runner" >/dev/null || status=$?
-if [ "$status" -ne 1 ]; then
-    echo "a deliberate mistake was not found (status $status)" >&2
-    exit 1
-fi
+# The command must end with status 1: its second program has a mistake.
+must_differ() {
+    status=0
+    "$@" >/dev/null || status=$?
+    if [ "$status" -ne 1 ]; then
+        echo "a deliberate mistake was not found (status $status): $*" >&2
+        exit 1
+    fi
+}
+
+./target/release/programs "$lister" "$runner" "$@"
+must_differ ./target/release/programs --break lt-from-n "$lister" "$runner"
 echo "deliberate mistake found"
+
+./target/release/library ${1+"$1"}
+for name in lt-from-n first-successor count-one-less base-one-off place-128; do
+    must_differ ./target/release/library --break "$name" ${1+"$1"}
+done
+echo "deliberate mistakes found"

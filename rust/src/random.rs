@@ -26,7 +26,7 @@ impl Random {
     }
 
     /// The next 64 bits.
-    fn next(&mut self) -> u64 {
+    pub(crate) fn next(&mut self) -> u64 {
         self.0 ^= self.0 >> 12;
         self.0 ^= self.0 << 25;
         self.0 ^= self.0 >> 27;
@@ -34,37 +34,42 @@ impl Random {
     }
 
     /// A number below `n`.
-    fn below(&mut self, n: usize) -> usize {
+    pub(crate) fn below(&mut self, n: usize) -> usize {
         ((self.next() >> 32) % n as u64) as usize
     }
 
     /// A number from `low` up to and with `high`.
-    fn between(&mut self, low: usize, high: usize) -> usize {
+    pub(crate) fn between(&mut self, low: usize, high: usize) -> usize {
         low + self.below(high - low + 1)
     }
 
     /// True in so many of a hundred cases.
-    fn chance(&mut self, percent: usize) -> bool {
+    pub(crate) fn chance(&mut self, percent: usize) -> bool {
         self.below(100) < percent
     }
 
     /// A field below `n`.
-    fn field(&mut self, n: usize) -> u16 {
+    pub(crate) fn field(&mut self, n: usize) -> u16 {
         self.below(n) as u16
     }
 
     /// One of the given values.
-    fn pick<T: Copy>(&mut self, values: &[T]) -> T {
+    pub(crate) fn pick<T: Copy>(&mut self, values: &[T]) -> T {
         values[self.below(values.len())]
     }
 
+    /// Thirty-two bits.
+    pub(crate) fn bits(&mut self) -> u32 {
+        (self.next() >> 32) as u32
+    }
+
     /// Sixteen bits.
-    fn halfword(&mut self) -> u16 {
+    pub(crate) fn halfword(&mut self) -> u16 {
         (self.next() >> 48) as u16
     }
 
     /// A word that is often at an edge of the signed or unsigned range.
-    fn word(&mut self) -> u32 {
+    pub(crate) fn word(&mut self) -> u32 {
         const EDGES: [u32; 10] = [
             0,
             1,
@@ -122,7 +127,7 @@ struct Builder<'a> {
 }
 
 /// A page of pieces that mostly run to the end of its code.
-fn work_page(random: &mut Random) -> Vec<Bundle> {
+pub(crate) fn work_page(random: &mut Random) -> Vec<Bundle> {
     let code = random.between(3, 56);
     Builder::new(random, code).page(Builder::prologue, Builder::piece)
 }
@@ -672,7 +677,7 @@ impl Builder<'_> {
 }
 
 /// A literal word of a service; few end the run and very few are bad.
-fn service_word(random: &mut Random) -> u32 {
+pub(crate) fn service_word(random: &mut Random) -> u32 {
     let register = (random.below(8) as u32) << 21;
     let inside = random.below(16) as u32;
     let low = random.below(1 << 24) as u32;
@@ -697,7 +702,7 @@ fn service_word(random: &mut Random) -> u32 {
 }
 
 /// Service words at the edges, some of them bad.
-fn edge_word(random: &mut Random) -> u32 {
+pub(crate) fn edge_word(random: &mut Random) -> u32 {
     let low = random.pick(&[0, 1, 0x7C, 0x1_0000, 0x1_7FFC, 0x10_0000, 0xFF_FFFF]);
     let high = random.pick(&[0xC000_0000, 0xE000_0000]);
     match random.below(10) {
@@ -741,7 +746,7 @@ fn literal_page(random: &mut Random) -> Vec<Bundle> {
 // ---- single halfwords ---------------------------------------------------
 
 /// A 16-bit instruction that only works on registers, with target `d`.
-fn calculation_half(random: &mut Random, d: u16) -> u16 {
+pub(crate) fn calculation_half(random: &mut Random, d: u16) -> u16 {
     let (n, m) = (random.field(8), random.field(8));
     match random.below(20) {
         0..=2 => {
@@ -761,7 +766,7 @@ fn calculation_half(random: &mut Random, d: u16) -> u16 {
 }
 
 /// A halfword of any listed 16-bit encoding, with any fields.
-fn listed_half(random: &mut Random) -> u16 {
+pub(crate) fn listed_half(random: &mut Random) -> u16 {
     let low = random.halfword();
     match random.below(14) {
         0 | 1 => low & 0x3FFF,
@@ -788,7 +793,7 @@ fn listed_service(random: &mut Random) -> u16 {
 }
 
 /// A halfword that no listed encoding matches, or nearly one that does.
-fn odd_half(random: &mut Random) -> u16 {
+pub(crate) fn odd_half(random: &mut Random) -> u16 {
     random.pick(&[
         0xDE00, 0xDEFF, 0xDFE9, 0xDFEA, 0xDFEC, 0xDFEF, 0xDFE8, 0xBF01, 0xBF10, 0xB300, 0xB000,
         0xB400, 0xBA00, 0xBE00, 0xBC00, 0xB240, 0x4640, 0x4680, 0x4700, 0x4478, 0x5000, 0x6000,
@@ -923,7 +928,7 @@ fn damaged_page(random: &mut Random) -> Vec<u8> {
 }
 
 /// One damage to a page.
-fn damage(random: &mut Random, bytes: &mut Vec<u8>) {
+pub(crate) fn damage(random: &mut Random, bytes: &mut Vec<u8>) {
     if bytes.len() < 4 {
         return;
     }

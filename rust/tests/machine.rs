@@ -6,6 +6,9 @@ use marshbodkin_check::second::arith::Flags;
 use marshbodkin_check::second::machine::{run, step, Stop};
 use marshbodkin_check::second::memory::{Fault, RAM_SIZE};
 use marshbodkin_check::second::record::{read_back, store, Base, Record, STORED};
+use marshbodkin_check::second::rules::Rules;
+
+const RIGHT: Rules = Rules::RIGHT;
 
 /// Runs one bundle and a return from a record, with external data.
 fn run_bundle(bundle: Bundle, record: &Record, external: &[u8]) -> (Stop, Record) {
@@ -144,15 +147,15 @@ fn stored_form_round_trips() {
     for base in bases {
         let record = Record { base, ..sample() };
         let mut room = [0xAA; STORED];
-        assert_eq!(store(&record, &mut room), None);
-        assert_eq!(read_back(&room), (record, None));
+        assert_eq!(store(RIGHT, &record, &mut room), None);
+        assert_eq!(read_back(RIGHT, &room), (record, None));
     }
 }
 
 #[test]
 fn stored_form_has_the_papers_order() {
     let mut room = [0; STORED];
-    store(&sample(), &mut room);
+    store(RIGHT, &sample(), &mut room);
     assert_eq!(room[24..28], [4, 3, 2, 1]);
     assert_eq!(
         room[32..],
@@ -162,7 +165,7 @@ fn stored_form_has_the_papers_order() {
 
 #[test]
 fn storing_refuses() {
-    assert_eq!(store(&sample(), &mut [0; 43]), Some(6));
+    assert_eq!(store(RIGHT, &sample(), &mut [0; 43]), Some(6));
     let bad = [
         Record {
             sp: 0xFFFC,
@@ -181,16 +184,16 @@ fn storing_refuses() {
     ];
     for record in bad {
         let mut room = [0xAA; STORED];
-        assert_eq!(store(&record, &mut room), Some(7));
+        assert_eq!(store(RIGHT, &record, &mut room), Some(7));
         assert_eq!(room, [0xAA; STORED]);
     }
 }
 
 #[test]
 fn reading_back_refuses() {
-    assert_eq!(read_back(&[0; 45]), (Record::fresh(), Some(6)));
+    assert_eq!(read_back(RIGHT, &[0; 45]), (Record::fresh(), Some(6)));
     let mut good = [0; STORED];
-    store(&sample(), &mut good);
+    store(RIGHT, &sample(), &mut good);
     for (at, value) in [
         (36, 3),
         (36, 0),
@@ -202,6 +205,10 @@ fn reading_back_refuses() {
     ] {
         let mut bytes = good;
         bytes[at] = value;
-        assert_eq!(read_back(&bytes), (Record::fresh(), Some(7)), "byte {at}");
+        assert_eq!(
+            read_back(RIGHT, &bytes),
+            (Record::fresh(), Some(7)),
+            "byte {at}"
+        );
     }
 }

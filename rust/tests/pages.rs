@@ -3,6 +3,7 @@
 
 use std::collections::BTreeMap;
 
+use marshbodkin_check::mistakes;
 use marshbodkin_check::random::{self, DEFAULT_SEED};
 use marshbodkin_check::second::arith::{condition_passed, Flags};
 use marshbodkin_check::second::count::{count, read_bundle, Reading};
@@ -11,6 +12,7 @@ use marshbodkin_check::second::machine::{step, Stop};
 use marshbodkin_check::second::memory::RAM_SIZE;
 use marshbodkin_check::second::page::Page;
 use marshbodkin_check::second::record::Record;
+use marshbodkin_check::second::rules::Rules;
 use marshbodkin_check::second::text;
 
 const PAGES: u64 = 400;
@@ -173,15 +175,10 @@ fn default_seed_executes_every_instruction_often() {
 
 #[test]
 fn default_seed_finds_lt_from_n_alone() {
-    let broken = |condition: u8, flags: Flags| match condition {
-        11 => flags.n,
-        _ => condition_passed(condition, flags),
-    };
+    let broken = mistakes::rules("lt-from-n").expect("a known mistake");
     let found = (0..PAGES)
         .map(|number| random::page(DEFAULT_SEED, number))
-        .filter(|page| {
-            text::runner_answer(page, broken) != text::runner_answer(page, condition_passed)
-        })
+        .filter(|page| text::runner_answer(broken, page) != text::runner_answer(Rules::RIGHT, page))
         .count();
     println!("{found} pages differ");
     assert!(found >= 10, "only {found} pages differ");

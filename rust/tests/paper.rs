@@ -2,15 +2,18 @@
 
 use marshbodkin_check::assemble::page_bytes;
 use marshbodkin_check::paper;
-use marshbodkin_check::second::arith::{condition_passed, Flags};
+use marshbodkin_check::second::arith::Flags;
 use marshbodkin_check::second::count::{count_of, read_bundle_of, Reading};
 use marshbodkin_check::second::machine::{Answer, Stop};
 use marshbodkin_check::second::memory::{validate, validate_with, Fault};
 use marshbodkin_check::second::record::Base;
+use marshbodkin_check::second::rules::Rules;
 use marshbodkin_check::second::text;
 
+const RIGHT: Rules = Rules::RIGHT;
+
 fn run(bundles: &[[u16; 2]]) -> Answer {
-    text::runner_answer(&page_bytes(bundles), condition_passed)
+    text::runner_answer(RIGHT, &page_bytes(bundles))
 }
 
 fn flags(digits: &str) -> Flags {
@@ -31,14 +34,19 @@ const RETURNED: Stop = Stop::Service {
 #[test]
 fn counts_of_the_papers_pages() {
     for page in paper::PAGES {
-        assert_eq!(count_of(&page.bytes()), (page.count, None), "{}", page.name);
+        assert_eq!(
+            count_of(RIGHT, &page.bytes()),
+            (page.count, None),
+            "{}",
+            page.name
+        );
     }
 }
 
 #[test]
 fn printed_texts() {
     let page = page_bytes(paper::PRINTED);
-    assert_eq!(text::lister(&page), paper::PRINTED_LISTING);
+    assert_eq!(text::lister(RIGHT, &page), paper::PRINTED_LISTING);
     assert_eq!(text::runner(&page), paper::PRINTED_RUN);
 }
 
@@ -59,16 +67,19 @@ fn other_first_lines() {
 fn refusals_are_one_line() {
     assert_eq!(text::runner(&[]), "refused 5\n");
     assert_eq!(text::runner(&[0; 5]), "refused 1\n");
-    assert_eq!(text::lister(&[0; 260]), "refused 1\n");
-    assert_eq!(text::lister(&[]), "bundles 0 count 0\n");
+    assert_eq!(text::lister(RIGHT, &[0; 260]), "refused 1\n");
+    assert_eq!(text::lister(RIGHT, &[]), "bundles 0 count 0\n");
 }
 
 #[test]
 fn reader_refusals() {
-    assert_eq!(read_bundle_of(&[0; 3], 0), (Reading::Bad, Some(1)));
-    assert_eq!(read_bundle_of(&[0; 4], 1), (Reading::Bad, Some(8)));
-    assert_eq!(read_bundle_of(&[0; 4], 0), (Reading::Largest(1), None));
-    assert_eq!(count_of(&[0; 257]), (0, Some(1)));
+    assert_eq!(read_bundle_of(RIGHT, &[0; 3], 0), (Reading::Bad, Some(1)));
+    assert_eq!(read_bundle_of(RIGHT, &[0; 4], 1), (Reading::Bad, Some(8)));
+    assert_eq!(
+        read_bundle_of(RIGHT, &[0; 4], 0),
+        (Reading::Largest(1), None)
+    );
+    assert_eq!(count_of(RIGHT, &[0; 257]), (0, Some(1)));
 }
 
 #[test]
@@ -222,5 +233,8 @@ fn formula_offsets() {
     assert_eq!(validate(0xFFFF_FFFF, 256), Base::None);
     assert_eq!(validate(0x8000_00FF, 256), Base::External(255));
     assert_eq!(validate(0x8000_0100, 256), Base::None);
-    assert_eq!(validate_with(0x1_0000, &[0; 255]), (Base::None, Some(3)));
+    assert_eq!(
+        validate_with(RIGHT, 0x1_0000, &[0; 255]),
+        (Base::None, Some(3))
+    );
 }

@@ -1,6 +1,6 @@
 // The record of the machine, by value, and base validation.
 ghost use mathlib.Core.Path.{_≡_};
-ghost use lib.ListN.{length, getD, set};
+ghost use lib.ListN.{length};
 ghost use Rattle.state.specs.Record.{register, withRegister, withSp, withFlags, withPlace, withBase, freshRecord, spFits, baseFits, fitRecord};
 ghost use Rattle.state.specs.Validation.{externalFits, validated, validateBase};
 use arm::Flags;
@@ -47,42 +47,23 @@ pub fn fresh_record() -> Record
 
 // ---- the parts of a record, read and changed
 
-// Number k of the eight; there is none from 8 on, and 0 is read.
-fn element(regs: [u32; 8], k: u8) -> u32
-    ensures { λ x. ⌜ x ≡ getD regs k 0 ⌝ }
-{
-    let i = k as usize;
-    if i < 8 { regs[i] } else { 0 }
-}
-
-// Number k of the eight is x; from 8 on nothing changes.
-fn with_element(regs: [u32; 8], k: u8, x: u32) -> [u32; 8]
-    ensures { λ s. ⌜ s ≡ set regs k x ⌝ }
-{
-    let i = k as usize;
-    let mut changed = regs;
-    if i < 8 {
-        changed[i] = x;
-    }
-    changed
-}
-
-// Register k.
+// Register k; there is none from 8 on, and 0 is read.
 pub fn register_of(r: Record, k: u8) -> u32
     ensures { λ x. ⌜ x ≡ register r k ⌝ }
 {
-    let regs = r.regs;
-    element(regs, k)
+    let i = k as usize;
+    if i < 8 { r.regs[i] } else { 0 }
 }
 
-// Register k is x.
+// Register k is x; from 8 on nothing changes.
 pub fn set_register(r: Record, k: u8, x: u32) -> Record
     ensures { λ s. ⌜ s ≡ withRegister r k x ⌝ }
 {
-    let regs = r.regs;
-    let changed = with_element(regs, k, x);
+    let i = k as usize;
     let mut s = r;
-    s.regs = changed;
+    if i < 8 {
+        s.regs[i] = x;
+    }
     s
 }
 

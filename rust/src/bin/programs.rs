@@ -7,13 +7,13 @@ use std::fmt;
 use std::io::{self, ErrorKind, Write};
 use std::process::{Command, ExitCode, Stdio};
 
-use marshbodkin_check::paper;
 use marshbodkin_check::random::{self, DEFAULT_SEED};
-use marshbodkin_check::second::arith::{condition_passed, ConditionRule, Flags};
 use marshbodkin_check::second::machine::Stop;
+use marshbodkin_check::second::rules::Rules;
 use marshbodkin_check::second::text;
+use marshbodkin_check::{mistakes, paper, show};
 
-const USAGE: &str = "programs [--break lt-from-n] LISTER RUNNER [SEED [PAGES]]";
+const USAGE: &str = "programs [--break NAME] LISTER RUNNER [SEED [PAGES]]";
 const DEFAULT_PAGES: u64 = 400;
 
 /// What the command line asks for.
@@ -22,27 +22,16 @@ struct Request {
     runner: String,
     seed: u64,
     pages: u64,
-    rule: ConditionRule,
-}
-
-/// A mistake that must be found: LT (11) taken from N alone.
-fn lt_from_n(condition: u8, flags: Flags) -> bool {
-    match condition {
-        11 => flags.n,
-        _ => condition_passed(condition, flags),
-    }
+    rules: Rules,
 }
 
 /// Reads the command line.
 fn request(arguments: impl Iterator<Item = String>) -> Option<Request> {
     let mut arguments = arguments.peekable();
-    let mut rule: ConditionRule = condition_passed;
+    let mut rules = Rules::RIGHT;
     if arguments.peek().is_some_and(|first| first == "--break") {
         arguments.next();
-        if arguments.next()? != "lt-from-n" {
-            return None;
-        }
-        rule = lt_from_n;
+        rules = mistakes::rules(&arguments.next()?)?;
     }
     let (lister, runner) = (arguments.next()?, arguments.next()?);
     let mut number = |default| match arguments.next() {
@@ -55,7 +44,7 @@ fn request(arguments: impl Iterator<Item = String>) -> Option<Request> {
         runner,
         seed,
         pages,
-        rule,
+        rules,
     })
 }
 
@@ -126,22 +115,6 @@ fn output(program: &str, page: &[u8]) -> io::Result<Vec<u8>> {
     }
 }
 
-/// The page as halfwords in hex, a comma after each bundle; an odd last byte
-/// stands alone.
-fn hex(page: &[u8]) -> String {
-    let bundle = |bytes: &[u8]| {
-        let halves: Vec<String> = bytes
-            .chunks(2)
-            .map(|half| match half {
-                [low, high] => format!("{high:02X}{low:02X}"),
-                _ => format!("{:02X}", half[0]),
-            })
-            .collect();
-        halves.join(" ")
-    };
-    page.chunks(4).map(bundle).collect::<Vec<_>>().join(", ")
-}
-
 /// A difference between a program and the second program.
 fn difference(program: &str, page: &[u8], expected: &str) -> io::Result<Option<String>> {
     let printed = output(program, page)?;
@@ -149,7 +122,7 @@ fn difference(program: &str, page: &[u8], expected: &str) -> io::Result<Option<S
         format!(
             "page ({} bytes): {}\n{program} printed:\n{}second program:\n{expected}",
             page.len(),
-            hex(page),
+            show::page(page),
             String::from_utf8_lossy(&printed),
         )
     }))
@@ -157,8 +130,9 @@ fn difference(program: &str, page: &[u8], expected: &str) -> io::Result<Option<S
 
 /// Compares both programs on one page, and counts it.
 fn compare(request: &Request, page: &[u8], tally: &mut Tally) -> io::Result<Option<String>> {
-    let answer = text::runner_answer(page, request.rule);
-    if let Some(found) = difference(&request.lister, page, &text::lister(page))? {
+    let answer = text::runner_answer(request.rules, page);
+    let listing = text::lister(request.rules, page);
+    if let Some(found) = difference(&request.lister, page, &listing)? {
         return Ok(Some(found));
     }
     if let Some(found) = difference(&request.runner, page, &text::answer(&answer))? {

@@ -115,9 +115,6 @@ fn ror_c(x: u32, n: u32) -> (u32, bool) {
     (result, bit(result, 31))
 }
 
-/// A rule that tells whether a condition (0 to 13) holds.
-pub type ConditionRule = fn(u8, Flags) -> bool;
-
 /// ConditionPassed: three bits choose the test, the lowest inverts it.
 pub fn condition_passed(condition: u8, flags: Flags) -> bool {
     let Flags { n, z, c, v } = flags;

@@ -2,6 +2,7 @@
 
 use super::decode::{narrow, opens_wide, wide, Instruction};
 use super::page::Page;
+use super::rules::Rules;
 use super::services::{literal_service, Service};
 
 /// The bundle reader's answer.
@@ -97,11 +98,11 @@ pub fn read_bundle(page: Page, bundle: usize) -> Reading {
 }
 
 /// The bundle reader with its refusals, 1 and 8; refused, the bundle is bad.
-pub fn read_bundle_of(bytes: &[u8], bundle: usize) -> (Reading, Option<u8>) {
+pub fn read_bundle_of(rules: Rules, bytes: &[u8], bundle: usize) -> (Reading, Option<u8>) {
     match Page::new(bytes) {
         None => (Reading::Bad, Some(1)),
         Some(page) if bundle >= page.bundles() => (Reading::Bad, Some(8)),
-        Some(page) => (read_bundle(page, bundle), None),
+        Some(page) => ((rules.reading)(page, bundle), None),
     }
 }
 
@@ -121,18 +122,18 @@ pub fn count(page: Page) -> usize {
 }
 
 /// The count with its refusal 1; refused, it is 0.
-pub fn count_of(bytes: &[u8]) -> (usize, Option<u8>) {
+pub fn count_of(rules: Rules, bytes: &[u8]) -> (usize, Option<u8>) {
     match Page::new(bytes) {
         None => (0, Some(1)),
-        Some(page) => (count(page), None),
+        Some(page) => ((rules.count)(page), None),
     }
 }
 
 /// 01's "Fit place": below the count, and an odd place needs a bundle of two
 /// 16-bit instructions whose first is no terminator.
-pub fn is_fit_place(page: Page, place: usize) -> bool {
+pub fn is_fit_place(rules: Rules, page: Page, place: usize) -> bool {
     let bundle = place / 2;
-    if bundle >= count(page) {
+    if bundle >= (rules.count)(page) {
         return false;
     }
     let (first, _) = page.bundle(bundle);

@@ -1,14 +1,12 @@
 //! Steps and runs, with their refusals 1 to 5, faults and stops.
 
-use super::arith::{
-    add_with_carry, condition_passed, multiply, sdiv, shift_c, sign_extend, udiv, ConditionRule,
-    Shift,
-};
+use super::arith::{add_with_carry, multiply, sdiv, shift_c, sign_extend, udiv, Shift};
 use super::count::{branch_target, is_fit_place};
 use super::decode::{narrow, opens_wide, wide, DataOp, Instruction, Operand, Register};
 use super::memory::{self, Fault};
 use super::page::Page;
 use super::record::{Base, Record};
+use super::rules::Rules;
 use super::services::{literal_service, Action, Service};
 
 /// Why a run ended.
@@ -41,19 +39,19 @@ pub fn step(page: &[u8], ram: &mut [u8], external: &[u8], record: &Record) -> An
 
 /// A run with a budget.
 pub fn run(page: &[u8], ram: &mut [u8], external: &[u8], record: &Record, budget: u32) -> Answer {
-    run_by(condition_passed, page, ram, external, record, budget)
+    run_by(Rules::RIGHT, page, ram, external, record, budget)
 }
 
-/// A run in which another rule may decide the conditions.
+/// A run by other rules.
 pub fn run_by(
-    rule: ConditionRule,
+    rules: Rules,
     page: &[u8],
     ram: &mut [u8],
     external: &[u8],
     record: &Record,
     budget: u32,
 ) -> Answer {
-    match accept(page, ram, external, record) {
+    match accept(rules, page, ram, external, record) {
         Err(number) => Answer {
             record: record.clone(),
             steps: 0,
@@ -64,7 +62,7 @@ pub fn run_by(
             external,
             ram,
             record: record.clone(),
-            rule,
+            rules,
         }
         .run(budget),
     }
@@ -72,6 +70,7 @@ pub fn run_by(
 
 /// The refusals of a step or a run, in order.
 fn accept<'a>(
+    rules: Rules,
     page: &'a [u8],
     ram: &[u8],
     external: &[u8],
@@ -87,7 +86,7 @@ fn accept<'a>(
     if !record.is_fit(external.len()) {
         return Err(4);
     }
-    if !is_fit_place(page, usize::from(record.place)) {
+    if !is_fit_place(rules, page, usize::from(record.place)) {
         return Err(5);
     }
     Ok(page)
@@ -125,7 +124,7 @@ struct Machine<'a> {
     external: &'a [u8],
     ram: &'a mut [u8],
     record: Record,
-    rule: ConditionRule,
+    rules: Rules,
 }
 
 impl Machine<'_> {
@@ -269,7 +268,7 @@ impl Machine<'_> {
                 return Ok(self.branch_if((self.r(n) != 0) == nonzero, offset));
             }
             Instruction::ConditionalBranch { condition, offset } => {
-                let holds = (self.rule)(condition, self.record.flags);
+                let holds = (self.rules.condition)(condition, self.record.flags);
                 return Ok(self.branch_if(holds, offset));
             }
             Instruction::Branch { offset } => return Ok(self.branch_if(true, offset)),
@@ -428,10 +427,10 @@ impl Machine<'_> {
         match action {
             Action::Exit { .. } | Action::Preload => {}
             Action::SetBaseFrom(n) => {
-                return Ok(memory::validate(self.r(n), self.external.len()));
+                return Ok((self.rules.validate)(self.r(n), self.external.len()));
             }
             Action::SetBase(address) => {
-                return Ok(memory::validate(address, self.external.len()));
+                return Ok((self.rules.validate)(address, self.external.len()));
             }
             Action::LowerStack(bytes) => self.record.sp = memory::lower_stack(sp, bytes)?,
             Action::StackStore { register, offset } => {

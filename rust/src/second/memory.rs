@@ -2,6 +2,7 @@
 
 use super::decode::{BaseRegister, Size};
 use super::record::{Base, MOST_EXTERNAL, RAM_OFFSETS, RAM_START};
+use super::rules::Rules;
 
 /// Exact size of user RAM.
 pub const RAM_SIZE: usize = 32_768;
@@ -47,9 +48,9 @@ pub fn validate(v: u32, external: usize) -> Base {
 }
 
 /// Base validation with its refusal 3; refused, the base is none.
-pub fn validate_with(v: u32, external: &[u8]) -> (Base, Option<u8>) {
+pub fn validate_with(rules: Rules, v: u32, external: &[u8]) -> (Base, Option<u8>) {
     if is_external_length(external.len()) {
-        (validate(v, external.len()), None)
+        ((rules.validate)(v, external.len()), None)
     } else {
         (Base::None, Some(3))
     }

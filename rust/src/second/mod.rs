@@ -7,5 +7,6 @@ pub mod machine;
 pub mod memory;
 pub mod page;
 pub mod record;
+pub mod rules;
 pub mod services;
 pub mod text;

@@ -1,6 +1,7 @@
 //! The record, the tests of a fit record, and its stored form of 44 bytes.
 
 use super::arith::Flags;
+use super::rules::Rules;
 
 /// First address of user RAM, and lowest SP.
 pub const RAM_START: u32 = 0x10000;
@@ -57,25 +58,25 @@ impl Record {
     }
 
     /// The range tests of the stored form.
-    fn is_in_range(&self) -> bool {
+    pub fn is_in_range(&self) -> bool {
         self.is_fit(MOST_EXTERNAL as usize) && self.place <= LAST_PLACE
     }
 }
 
 /// Stores the record in the room lent; the refusal, if any, is 6 or 7.
-pub fn store(record: &Record, room: &mut [u8]) -> Option<u8> {
+pub fn store(rules: Rules, record: &Record, room: &mut [u8]) -> Option<u8> {
     if room.len() != STORED {
         return Some(6);
     }
-    if !record.is_in_range() {
+    if !(rules.in_range)(record) {
         return Some(7);
     }
     room.copy_from_slice(&stored_bytes(record));
     None
 }
 
-/// The bytes of the stored form, in 01's order.
-fn stored_bytes(record: &Record) -> Vec<u8> {
+/// The bytes of the stored form, in 01's order, of any record.
+pub fn stored_bytes(record: &Record) -> Vec<u8> {
     let (kind, offset) = match record.base {
         Base::None => (0u8, 0),
         Base::Ram(offset) => (1, offset),
@@ -96,18 +97,18 @@ fn stored_bytes(record: &Record) -> Vec<u8> {
 }
 
 /// Reads a stored form back; refused (6 or 7), the record is the fresh one.
-pub fn read_back(bytes: &[u8]) -> (Record, Option<u8>) {
+pub fn read_back(rules: Rules, bytes: &[u8]) -> (Record, Option<u8>) {
     if bytes.len() != STORED {
         return (Record::fresh(), Some(6));
     }
     match parse(bytes) {
-        Some(record) if record.is_in_range() => (record, None),
+        Some(record) if (rules.in_range)(&record) => (record, None),
         _ => (Record::fresh(), Some(7)),
     }
 }
 
 /// The record of 44 bytes, before its range tests.
-fn parse(bytes: &[u8]) -> Option<Record> {
+pub fn parse(bytes: &[u8]) -> Option<Record> {
     let word = |at: usize| (0..4).fold(0, |sum, i| sum | u32::from(bytes[at + i]) << (8 * i));
     let base = match (bytes[36], word(37)) {
         (0, 0) => Base::None,

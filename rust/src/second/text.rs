@@ -1,33 +1,34 @@
 //! What the lister and the runner print for a page, to the byte.
 
-use super::arith::{condition_passed, ConditionRule, Flags};
-use super::count::{count, read_bundle, Reading};
+use super::arith::Flags;
+use super::count::Reading;
 use super::machine::{run_by, Answer, Stop};
 use super::memory::RAM_SIZE;
 use super::page::Page;
 use super::record::Record;
+use super::rules::Rules;
 
 /// The runner's budget.
 pub const BUDGET: u32 = 100_000;
 
 /// The whole output of the lister.
-pub fn lister(bytes: &[u8]) -> String {
+pub fn lister(rules: Rules, bytes: &[u8]) -> String {
     let Some(page) = Page::new(bytes) else {
         return refused(1);
     };
-    let count = count(page);
+    let count = (rules.count)(page);
     let mut text = format!("bundles {} count {count}\n", page.bundles());
     for bundle in 0..page.bundles() {
-        text += &listed_bundle(page, bundle, count);
+        text += &listed_bundle(rules, page, bundle, count);
     }
     text
 }
 
 /// One line of the listing.
-fn listed_bundle(page: Page, bundle: usize, count: usize) -> String {
+fn listed_bundle(rules: Rules, page: Page, bundle: usize, count: usize) -> String {
     let (first, second) = page.bundle(bundle);
     let side = if bundle < count { "ok" } else { "out" };
-    let successor = match read_bundle(page, bundle) {
+    let successor = match (rules.reading)(page, bundle) {
         Reading::Bad => "bad".to_string(),
         Reading::NoSuccessor => "-".to_string(),
         Reading::Largest(largest) => largest.to_string(),
@@ -35,16 +36,16 @@ fn listed_bundle(page: Page, bundle: usize, count: usize) -> String {
     format!("{bundle} {first:04X} {second:04X} {side} {successor}\n")
 }
 
-/// The run that the runner makes, by a rule for the conditions: fresh record,
-/// RAM of zero bytes, no external data.
-pub fn runner_answer(bytes: &[u8], rule: ConditionRule) -> Answer {
+/// The run that the runner makes: fresh record, RAM of zero bytes, no external
+/// data.
+pub fn runner_answer(rules: Rules, bytes: &[u8]) -> Answer {
     let mut ram = vec![0; RAM_SIZE];
-    run_by(rule, bytes, &mut ram, &[], &Record::fresh(), BUDGET)
+    run_by(rules, bytes, &mut ram, &[], &Record::fresh(), BUDGET)
 }
 
 /// The whole output of the runner.
 pub fn runner(bytes: &[u8]) -> String {
-    answer(&runner_answer(bytes, condition_passed))
+    answer(&runner_answer(Rules::RIGHT, bytes))
 }
 
 /// The five lines of an answer, or the one of a refusal.

@@ -1,14 +1,28 @@
-use Rattle.state.specs.Record.{withRegister}
+use mathlib.Core.Path.{_≡_, refl}
+use native.Mathlib.Omega.{arith}
+use lib.ListN.{length}
+use lib.Seq.{set-out}
 use borrow.Author.Needs.{needs}
+use Rattle.state.specs.Record.{withRegister}
 use Rattle.state.proofs.set_register.Statement.{statement}
 use Rattle.state.proofs.set_register.Tie as tie
 
-with-element-requires : tie.Need-with-element-requires
-with-element-requires c κs = search needs
+mul-s : tie.Need-mul-s
+mul-s c = search needs
+
+element-write-s : tie.Need-element-write-s
+element-write-s c = search needs
 
 returns : tie.Need-returns
 unfolding withRegister
-returns c = rw (c .with-element .ensures)
+returns c = refl
+
+returns-2 : tie.Need-returns-2
+unfolding withRegister
+returns-2 c =
+    let regs = c .before .args .r .regs in
+    let l : length regs ≡ 8 = search needs in
+    rw (set-out regs (c .before .args .k) (c .before .args .x) (omega arith))
 
 pub set-register-spec : {M : Type 1} → statement M
-set-register-spec = tie.close (tie.spec with-element-requires returns)
+set-register-spec = tie.close (tie.spec mul-s element-write-s returns returns-2)

@@ -1,0 +1,58 @@
+//! 01's own pages, and the fixed pages for its rules: their counts as 01 gives
+//! them, their bundles, their runs, and the same step by step.
+
+use super::sides::{Handed, Rams};
+use super::{Comparison, Same};
+use crate::paper::{PaperPage, PAGES};
+use crate::second::record::{stored_bytes, Record};
+use crate::second::text::BUDGET;
+
+/// Most single steps on a page.
+const STEPS: usize = 1000;
+
+/// The whole part.
+pub fn compare(comparison: &mut Comparison) -> Same {
+    for page in PAGES {
+        one_page(comparison, page).map_err(|found| format!("page {}: {found}", page.name))?;
+    }
+    Ok(())
+}
+
+/// All that is compared on one page.
+fn one_page(comparison: &mut Comparison, page: &PaperPage) -> Same {
+    let bytes = page.bytes();
+    let count = comparison.count(&bytes)?;
+    if count as usize != page.count {
+        return Err(format!("both sides count {count}, 01 {}", page.count));
+    }
+    for bundle in 0..=page.bundles.len() as u32 {
+        comparison.read(&bytes, bundle)?;
+    }
+    let fresh = stored_bytes(&Record::fresh());
+    let handed = Handed {
+        page: &bytes,
+        external: &[],
+        record: &fresh,
+        budget: BUDGET,
+    };
+    comparison.run(&handed, &mut Rams::zero())?;
+    step_by_step(comparison, handed.with_budget(1))
+}
+
+/// Single steps from the fresh record on.
+fn step_by_step(comparison: &mut Comparison, first: Handed) -> Same {
+    let mut rams = Rams::zero();
+    let mut record = first.record.to_vec();
+    for _ in 0..STEPS {
+        let handed = Handed {
+            record: &record,
+            ..first
+        };
+        let given = comparison.step(&handed, &mut rams)?;
+        if given.numbers.kind != 0 {
+            break;
+        }
+        record = given.record;
+    }
+    Ok(())
+}

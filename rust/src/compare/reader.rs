@@ -1,0 +1,153 @@
+//! The bundle reader: every halfword in both halves, a dense sample of 32-bit
+//! pairs, literal words of every row, and its refusals.
+
+use super::{Comparison, Same};
+use crate::assemble::{self as asm, page_bytes, Bundle};
+use crate::names::{self, BAD_WORDS, WORDS};
+use crate::random::{self, Random};
+
+/// Pages to read in, by how many bundles they have, and the bundle's number.
+const POSITIONS: [(usize, usize); 6] = [(64, 32), (64, 0), (64, 63), (64, 1), (64, 62), (8, 5)];
+
+/// What stands after a halfword.
+const AFTER: [u16; 4] = [asm::NOP, asm::RETURN, asm::HALT, 0xDE00];
+/// What stands before a halfword: the last two are terminators.
+const BEFORE: [u16; 4] = [asm::NOP, 0xDF80, asm::HALT, asm::RETURN];
+
+/// Second halfwords at the edges of the 32-bit rows.
+const SECONDS: [u16; 48] = [
+    0x0000, 0x0001, 0x00FF, 0x0100, 0x0700, 0x07FF, 0x0800, 0x0F00, 0x0FFF, 0x1000, 0x2034, 0x3000,
+    0x7000, 0x77FF, 0x7800, 0x7FFF, 0x8000, 0x87FF, 0x8800, 0x8FFF, 0xFFFF, 0xF000, 0x00F0, 0xF0F0,
+    0xF7F7, 0xF0F7, 0xF7F0, 0xF8F0, 0xF0F8, 0xF8F8, 0xFFF0, 0xF0FF, 0xFFF7, 0xF7FF, 0xE0F0, 0xD0F0,
+    0xB0F0, 0x70F0, 0xF0E0, 0xF0D0, 0xF0B0, 0xF070, 0xF1F1, 0xF3F2, 0xBF00, 0xDF00, 0xE7FE, 0xF8C9,
+];
+/// How many second halfwords are taken at random for each other opener.
+const RANDOM_SECONDS: usize = 32;
+
+/// The whole part.
+pub fn compare(comparison: &mut Comparison) -> Same {
+    let mut random = Random::of_page(comparison.seed, 2 << 40);
+    for (total, bundle) in POSITIONS {
+        let mut page = words_page(&mut random, total);
+        for half in 0..=u16::MAX {
+            halfword(comparison, &mut page, bundle, half)?;
+        }
+    }
+    pairs(comparison, &mut random)?;
+    words(comparison, &mut random)?;
+    refusals(comparison)
+}
+
+/// A page of literal words, good and bad.
+fn words_page(random: &mut Random, total: usize) -> Vec<u8> {
+    let bundles: Vec<Bundle> = (0..total)
+        .map(|_| match random.chance(60) {
+            true => asm::word(random::edge_word(random)),
+            false => asm::word(random::service_word(random)),
+        })
+        .collect();
+    page_bytes(&bundles)
+}
+
+/// Puts a bundle at its place in a page.
+fn put(page: &mut [u8], bundle: usize, halves: Bundle) {
+    page[4 * bundle..4 * bundle + 4].copy_from_slice(&page_bytes(&[halves]));
+}
+
+/// Puts a bundle and reads it.
+fn read(comparison: &mut Comparison, page: &mut [u8], bundle: usize, halves: Bundle) -> Same {
+    put(page, bundle, halves);
+    comparison.read(page, bundle as u32)
+}
+
+/// A halfword in both halves of a bundle.
+fn halfword(comparison: &mut Comparison, page: &mut [u8], bundle: usize, half: u16) -> Same {
+    for other in AFTER {
+        read(comparison, page, bundle, [half, other])?;
+    }
+    for other in BEFORE {
+        read(comparison, page, bundle, [other, half])?;
+    }
+    Ok(())
+}
+
+/// Every opener of a 32-bit instruction with many second halfwords, in one
+/// bundle and across two; those of a row with all of them.
+fn pairs(comparison: &mut Comparison, random: &mut Random) -> Same {
+    let mut page = words_page(random, 64);
+    for opener in 0xE800..=u16::MAX {
+        if names::opens_a_row(opener) {
+            for second in 0..=u16::MAX {
+                read(comparison, &mut page, 31, [opener, second])?;
+            }
+        }
+        let some: Vec<u16> = (0..RANDOM_SECONDS).map(|_| random.halfword()).collect();
+        for second in SECONDS.into_iter().chain(some) {
+            let bundle = random.pick(&[0, 31, 62]);
+            read(comparison, &mut page, bundle, [opener, second])?;
+            put(&mut page, bundle + 1, [second, asm::NOP]);
+            read(comparison, &mut page, bundle, [asm::NOP, opener])?;
+            comparison.read(&page, bundle as u32 + 1)?;
+        }
+    }
+    Ok(())
+}
+
+/// Literal words of every row, named from either half.
+fn words(comparison: &mut Comparison, random: &mut Random) -> Same {
+    let mut page = words_page(random, 64);
+    for row in WORDS.iter().chain(&BAD_WORDS) {
+        for number in 0..200 {
+            let free = match number {
+                0 => 0,
+                1 => u32::MAX,
+                _ => random.bits(),
+            };
+            let word = row.value | free & !row.mask;
+            let at = random.between(1, 63);
+            put(&mut page, at, asm::word(word));
+            comparison.tally.class("words read", names::word(word));
+            word_at(comparison, &mut page, at)?;
+        }
+    }
+    Ok(())
+}
+
+/// Reads bundles that name the word at a bundle, in a whole page and in one
+/// that ends before the word or just after it.
+fn word_at(comparison: &mut Comparison, page: &mut [u8], at: usize) -> Same {
+    let service = asm::service(at as u16);
+    let bundle = at - 1;
+    for halves in [
+        [asm::NOP, service],
+        [service, asm::NOP],
+        [service, 0xDE00],
+        [service, asm::HALT],
+        [asm::RETURN, service],
+    ] {
+        read(comparison, page, bundle, halves)?;
+        comparison.read(&page[..4 * at], bundle as u32)?;
+        comparison.read(&page[..4 * at + 4], bundle as u32)?;
+    }
+    Ok(())
+}
+
+/// Bundles past the page, wrong lengths, and both at once.
+fn refusals(comparison: &mut Comparison) -> Same {
+    let lengths = (0..=300).chain([511, 512, 1023, 1024, 65_536]);
+    for length in lengths {
+        let page: Vec<u8> = [0xFE, 0xE7, 0x00, 0xBF]
+            .into_iter()
+            .cycle()
+            .take(length)
+            .collect();
+        let bundles = (length / 4) as u32;
+        let far = [63, 64, 65, 1000, 1 << 30, (1 << 30) + 1, 1 << 31, u32::MAX];
+        let near = [0, bundles.saturating_sub(1), bundles, bundles + 1];
+        for bundle in near.into_iter().chain(far) {
+            comparison.read(&page, bundle)?;
+        }
+        comparison.count(&page)?;
+    }
+    Ok(())
+}

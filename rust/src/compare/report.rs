@@ -1,0 +1,102 @@
+//! A difference in words: what was handed over, and both answers.
+
+use std::fmt::Debug;
+
+use super::sides::{record_in, Given, Handed};
+use crate::second::record::Base;
+use crate::show;
+
+/// How many unequal bytes of RAM are shown.
+const SHOWN: usize = 16;
+/// Most external data that is shown whole.
+const SHORT: usize = 1024;
+
+/// A difference of a step or a run; the library's side comes first.
+pub fn runs(call: &str, handed: &Handed, sides: [(&Given, &[u8]); 2]) -> String {
+    let [(library, library_ram), (second, second_ram)] = sides;
+    let unequal: Vec<String> = (0..)
+        .zip(library_ram.iter().zip(second_ram))
+        .filter(|(_, (ours, theirs))| ours != theirs)
+        .map(|(at, (ours, theirs))| format!("{at}: {ours:02X} {theirs:02X}"))
+        .collect();
+    format!(
+        "{call}\n{}library: {}\nsecond program: {}\nRAM bytes that differ: {}\n{}\n",
+        handed_over(handed, second_ram.len()),
+        given(library),
+        given(second),
+        unequal.len(),
+        unequal[..unequal.len().min(SHOWN)].join(", "),
+    )
+}
+
+/// What a step or a run was handed.
+fn handed_over(handed: &Handed, ram: usize) -> String {
+    format!(
+        "page ({} bytes): {}\nrecord ({} bytes): {}\n{}budget {}, RAM of {ram} bytes\nexternal ({} bytes): {}\n",
+        handed.page.len(),
+        show::page(handed.page),
+        handed.record.len(),
+        show::bytes(handed.record),
+        fields(handed.record),
+        handed.budget,
+        handed.external.len(),
+        external(handed),
+    )
+}
+
+/// The external data, or only the page of it that holds the base.
+fn external(handed: &Handed) -> String {
+    let base = record_in(handed.record).map(|record| record.base);
+    match (handed.external, base) {
+        (all, _) if all.len() <= SHORT => show::bytes(all),
+        (all, Some(Base::External(offset))) if (offset as usize) < all.len() => {
+            let start = offset as usize / 256 * 256;
+            let page = &all[start..all.len().min(start + 256)];
+            format!("from {start}: {}", show::bytes(page))
+        }
+        _ => "too long to show".to_string(),
+    }
+}
+
+/// The fields of a record, if the bytes hold one.
+fn fields(bytes: &[u8]) -> String {
+    match record_in(bytes) {
+        None => String::new(),
+        Some(record) => format!("{record:X?}\n"),
+    }
+}
+
+/// What a side gave.
+fn given(given: &Given) -> String {
+    format!("{:?}\n  {}", given.numbers, show::bytes(&given.record))
+}
+
+/// A difference of a call on a page.
+pub fn page_call<T: Debug>(call: &str, page: &[u8], library: T, second: T) -> String {
+    format!(
+        "{call}\npage ({} bytes): {}\nlibrary: {library:?}\nsecond program: {second:?}\n",
+        page.len(),
+        show::page(page),
+    )
+}
+
+/// A difference of base validation.
+pub fn validation<T: Debug>(v: u32, external: &[u8], library: T, second: T) -> String {
+    format!(
+        "validate {v:08X} with {} external bytes\nlibrary: {library:?}\nsecond program: {second:?}\n",
+        external.len(),
+    )
+}
+
+/// A difference of storing or reading back; the library's side comes first.
+pub fn form(call: &str, from: &[u8], room: &[u8], sides: [(u32, &Vec<u8>); 2]) -> String {
+    let side = |(code, bytes): (u32, &Vec<u8>)| format!("{code}, {}", show::bytes(bytes));
+    let [library, second] = sides.map(side);
+    format!(
+        "{call}\nfrom ({} bytes): {}\nroom ({} bytes): {}\nlibrary: {library}\nsecond program: {second}\n",
+        from.len(),
+        show::bytes(from),
+        room.len(),
+        show::bytes(room),
+    )
+}

@@ -1,0 +1,277 @@
+//! Each call on both sides: the library's, and the second program's with its
+//! answer in the library's numbers.
+
+use marshbodkin::calls::{self, Answer as Numbers};
+
+use super::report;
+use super::{Comparison, Same};
+use crate::second::count::{count_of, read_bundle_of, Reading};
+use crate::second::machine::{run_by, Answer, Stop};
+use crate::second::memory::{validate_with, RAM_SIZE};
+use crate::second::record::{parse, read_back, store, stored_bytes, Base, Record, STORED};
+use crate::second::rules::Rules;
+
+/// The host's own number: the bytes hold no record.
+pub const NO_RECORD: u32 = 255;
+
+/// What a step or a run is handed beside RAM. A step has budget 1.
+#[derive(Clone, Copy)]
+pub struct Handed<'a> {
+    pub page: &'a [u8],
+    pub external: &'a [u8],
+    pub record: &'a [u8],
+    pub budget: u32,
+}
+
+impl<'a> Handed<'a> {
+    /// The same with another budget.
+    pub fn with_budget(self, budget: u32) -> Handed<'a> {
+        Handed { budget, ..self }
+    }
+}
+
+/// What a step or a run gives beside RAM.
+#[derive(Clone, Debug, PartialEq, Eq)]
+pub struct Given {
+    pub numbers: Numbers,
+    pub record: Vec<u8>,
+}
+
+/// A RAM for each side, equal before and after each call.
+#[derive(Clone)]
+pub struct Rams {
+    pub library: Vec<u8>,
+    pub second: Vec<u8>,
+    spare: Vec<u8>,
+}
+
+impl Rams {
+    /// Two RAMs of these bytes.
+    pub fn new(bytes: Vec<u8>) -> Rams {
+        Rams {
+            library: bytes.clone(),
+            second: bytes,
+            spare: Vec::new(),
+        }
+    }
+
+    /// Two RAMs of zero bytes.
+    pub fn zero() -> Rams {
+        Rams::new(vec![0; RAM_SIZE])
+    }
+}
+
+/// A refusal's number, or 0.
+fn code(refusal: Option<u8>) -> u32 {
+    refusal.map_or(0, u32::from)
+}
+
+/// The record that bytes hold, if they hold one.
+pub fn record_in(bytes: &[u8]) -> Option<Record> {
+    (bytes.len() == STORED).then(|| parse(bytes)).flatten()
+}
+
+/// The second program's stop in the library's numbers.
+fn numbers(answer: &Answer) -> Numbers {
+    let (code, kind, value, literal) = match answer.stop {
+        Stop::Budget => (0, 0, 0, 0),
+        Stop::Service { low, literal: None } => (0, 1, low, 0),
+        Stop::Service {
+            low,
+            literal: Some(word),
+        } => (0, 2, low, word),
+        Stop::Fault(fault) => (0, 3, fault.number(), 0),
+        Stop::Unlisted => (0, 4, 0, 0),
+        Stop::Refused(number) => (number, 5, number, 0),
+    };
+    Numbers {
+        code: u32::from(code),
+        kind,
+        value: u32::from(value),
+        literal,
+        steps: answer.steps,
+    }
+}
+
+/// A run of the second program.
+fn second_run(rules: Rules, handed: &Handed, ram: &mut [u8]) -> Given {
+    let Some(record) = record_in(handed.record) else {
+        let numbers = Numbers {
+            code: NO_RECORD,
+            kind: 5,
+            value: NO_RECORD,
+            ..Numbers::default()
+        };
+        return Given {
+            numbers,
+            record: handed.record.to_vec(),
+        };
+    };
+    let (page, external) = (handed.page, handed.external);
+    let answer = run_by(rules, page, ram, external, &record, handed.budget);
+    Given {
+        numbers: numbers(&answer),
+        record: stored_bytes(&answer.record),
+    }
+}
+
+/// A run of the library.
+fn library_run(handed: &Handed, ram: &mut [u8]) -> Given {
+    let mut record = handed.record.to_vec();
+    let (page, external) = (handed.page, handed.external);
+    Given {
+        numbers: calls::run(page, ram, external, &mut record, handed.budget),
+        record,
+    }
+}
+
+/// A step of the library.
+fn library_step(handed: &Handed, ram: &mut [u8]) -> Given {
+    let mut record = handed.record.to_vec();
+    Given {
+        numbers: calls::step(handed.page, ram, handed.external, &mut record),
+        record,
+    }
+}
+
+/// The reader's answer in numbers.
+fn reading_numbers((reading, refusal): (Reading, Option<u8>)) -> (u32, u32, u32) {
+    let (kind, largest) = match reading {
+        Reading::Bad => (0, 0),
+        Reading::NoSuccessor => (1, 0),
+        Reading::Largest(largest) => (2, largest as u32),
+    };
+    (code(refusal), kind, largest)
+}
+
+/// A base in numbers.
+fn base_numbers((base, refusal): (Base, Option<u8>)) -> (u32, u32, u32) {
+    let (kind, offset) = match base {
+        Base::None => (0, 0),
+        Base::Ram(offset) => (1, offset),
+        Base::External(offset) => (2, offset),
+    };
+    (code(refusal), kind, offset)
+}
+
+impl Comparison {
+    /// A run.
+    pub fn run(&mut self, handed: &Handed, rams: &mut Rams) -> Result<Given, String> {
+        let library = library_run(handed, &mut rams.library);
+        let second = second_run(self.rules, handed, &mut rams.second);
+        if library != second || rams.library != rams.second {
+            let sides = [(&library, &rams.library[..]), (&second, &rams.second)];
+            return Err(report::runs("run", handed, sides));
+        }
+        self.tally.stop("run", &second.numbers);
+        Ok(second)
+    }
+
+    /// A step; the library's run with budget 1 must give the same.
+    pub fn step(&mut self, handed: &Handed, rams: &mut Rams) -> Result<Given, String> {
+        rams.spare.clone_from(&rams.library);
+        let stepped = library_step(handed, &mut rams.library);
+        let ran = library_run(handed, &mut rams.spare);
+        let second = second_run(self.rules, handed, &mut rams.second);
+        let expected = (&second, &rams.second[..]);
+        if stepped != second || rams.library != rams.second {
+            let sides = [(&stepped, &rams.library[..]), expected];
+            return Err(report::runs("step", handed, sides));
+        }
+        if ran != second || rams.spare != rams.second {
+            let sides = [(&ran, &rams.spare[..]), expected];
+            return Err(report::runs("run with budget 1", handed, sides));
+        }
+        self.tally.stop("step", &second.numbers);
+        self.tally.instruction(handed, &second);
+        Ok(second)
+    }
+
+    /// The count.
+    pub fn count(&mut self, page: &[u8]) -> Result<u32, String> {
+        let library = calls::count(page);
+        let (count, refusal) = count_of(self.rules, page);
+        let second = (code(refusal), count as u32);
+        if library != second {
+            return Err(report::page_call("count", page, library, second));
+        }
+        self.tally.call("count", second.0);
+        Ok(second.1)
+    }
+
+    /// The reader.
+    pub fn read(&mut self, page: &[u8], bundle: u32) -> Same {
+        let library = calls::read_bundle(page, bundle);
+        let second = reading_numbers(read_bundle_of(self.rules, page, bundle as usize));
+        if library != second {
+            let call = format!("read_bundle {bundle}");
+            return Err(report::page_call(&call, page, library, second));
+        }
+        self.tally.reading(second);
+        Ok(())
+    }
+
+    /// Base validation.
+    pub fn validate(&mut self, v: u32, external: &[u8]) -> Same {
+        let library = calls::validate(v, external);
+        let second = base_numbers(validate_with(self.rules, v, external));
+        if library != second {
+            return Err(report::validation(v, external, library, second));
+        }
+        self.tally.base(second);
+        Ok(())
+    }
+
+    /// Storing a record in room of these bytes.
+    pub fn store(&mut self, record: &[u8], room: &[u8]) -> Result<Vec<u8>, String> {
+        let (mut library, mut second) = (room.to_vec(), room.to_vec());
+        let answered = calls::store(record, &mut library);
+        let expected = match record_in(record) {
+            None => NO_RECORD,
+            Some(record) => code(store(self.rules, &record, &mut second)),
+        };
+        if (answered, &library) != (expected, &second) {
+            let sides = [(answered, &library), (expected, &second)];
+            return Err(report::form("store", record, room, sides));
+        }
+        self.tally.call("store", expected);
+        Ok(second)
+    }
+
+    /// Reading a stored form back to room of these bytes.
+    pub fn load(&mut self, stored: &[u8], room: &[u8]) -> Result<Vec<u8>, String> {
+        let (mut library, mut second) = (room.to_vec(), room.to_vec());
+        let answered = calls::load(stored, &mut library);
+        let expected = if room.len() == STORED {
+            let (record, refusal) = read_back(self.rules, stored);
+            second = stored_bytes(&record);
+            code(refusal)
+        } else {
+            NO_RECORD
+        };
+        if (answered, &library) != (expected, &second) {
+            let sides = [(answered, &library), (expected, &second)];
+            return Err(report::form("load", stored, room, sides));
+        }
+        self.tally.call("load", expected);
+        Ok(second)
+    }
+
+    /// The fresh record in room of these bytes.
+    pub fn fresh(&mut self, room: &[u8]) -> Same {
+        let (mut library, mut second) = (room.to_vec(), room.to_vec());
+        let answered = calls::fresh(&mut library);
+        let expected = if room.len() == STORED {
+            second = stored_bytes(&Record::fresh());
+            0
+        } else {
+            NO_RECORD
+        };
+        if (answered, &library) != (expected, &second) {
+            let sides = [(answered, &library), (expected, &second)];
+            return Err(report::form("fresh", &[], room, sides));
+        }
+        self.tally.call("fresh", expected);
+        Ok(())
+    }
+}

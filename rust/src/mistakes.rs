@@ -1,0 +1,96 @@
+//! Deliberate mistakes: a comparison that does not find them is worth nothing.
+
+use crate::second::arith::{condition_passed, Flags};
+use crate::second::count::{count, successors, Reading};
+use crate::second::memory::validate;
+use crate::second::page::Page;
+use crate::second::record::{Base, Record, LAST_PLACE};
+use crate::second::rules::Rules;
+
+/// Each mistake's name, and the rules with it.
+pub const MISTAKES: [(&str, Rules); 5] = [
+    (
+        "lt-from-n",
+        Rules {
+            condition: lt_from_n,
+            ..Rules::RIGHT
+        },
+    ),
+    (
+        "first-successor",
+        Rules {
+            reading: first_successor,
+            ..Rules::RIGHT
+        },
+    ),
+    (
+        "count-one-less",
+        Rules {
+            count: count_one_less,
+            ..Rules::RIGHT
+        },
+    ),
+    (
+        "base-one-off",
+        Rules {
+            validate: base_one_off,
+            ..Rules::RIGHT
+        },
+    ),
+    (
+        "place-128",
+        Rules {
+            in_range: place_128,
+            ..Rules::RIGHT
+        },
+    ),
+];
+
+/// The rules with the mistake of that name.
+pub fn rules(name: &str) -> Option<Rules> {
+    let found = MISTAKES.iter().find(|(known, _)| *known == name);
+    found.map(|&(_, rules)| rules)
+}
+
+/// LT (11) taken from N alone.
+fn lt_from_n(condition: u8, flags: Flags) -> bool {
+    match condition {
+        11 => flags.n,
+        _ => condition_passed(condition, flags),
+    }
+}
+
+/// The reader tells the first successor, not the largest.
+fn first_successor(page: Page, bundle: usize) -> Reading {
+    match successors(page, bundle).as_deref() {
+        None => Reading::Bad,
+        Some([]) => Reading::NoSuccessor,
+        Some([first, ..]) => Reading::Largest(*first),
+    }
+}
+
+/// The last bundle of a full page is left out.
+fn count_one_less(page: Page) -> usize {
+    match count(page) {
+        64 => 63,
+        right => right,
+    }
+}
+
+/// A RAM base lies one byte further.
+fn base_one_off(v: u32, external: usize) -> Base {
+    match validate(v, external) {
+        Base::Ram(offset) => Base::Ram(offset + 1),
+        other => other,
+    }
+}
+
+/// A stored place may be one larger.
+fn place_128(record: &Record) -> bool {
+    let place = record.place.min(LAST_PLACE);
+    let nearly = Record {
+        place,
+        ..record.clone()
+    };
+    nearly.is_in_range() && record.place <= LAST_PLACE + 1
+}

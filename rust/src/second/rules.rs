@@ -1,0 +1,34 @@
+//! The rules that can be exchanged, so that a comparison can be shown to find
+//! a wrong one.
+
+use super::arith::{condition_passed, Flags};
+use super::count::{count, read_bundle, Reading};
+use super::memory::validate;
+use super::page::Page;
+use super::record::{Base, Record};
+
+/// One rule of each kind.
+#[derive(Clone, Copy)]
+pub struct Rules {
+    /// Whether a condition (0 to 13) holds.
+    pub condition: fn(u8, Flags) -> bool,
+    /// The reader's answer for a bundle of the page.
+    pub reading: fn(Page, usize) -> Reading,
+    /// The count of a page.
+    pub count: fn(Page) -> usize,
+    /// validate(v), with so many bytes of external data.
+    pub validate: fn(u32, usize) -> Base,
+    /// The range tests of the stored form.
+    pub in_range: fn(&Record) -> bool,
+}
+
+impl Rules {
+    /// The right ones: 01's and the manual's.
+    pub const RIGHT: Rules = Rules {
+        condition: condition_passed,
+        reading: read_bundle,
+        count,
+        validate,
+        in_range: Record::is_in_range,
+    };
+}
