@@ -16,7 +16,7 @@ use Rattle.state.specs.Record.{freshRecord, withRegister, withFlags, withPlace}
 use Rattle.state.specs.declared.Record.{Record}
 use Rattle.plain.specs.PlainMachine.{goesOn}
 use Rattle.place.specs.Places.{standsIn, instructionAt, following}
-use Rattle.instruction.specs.Instructions.{goOnAt, branchTo, branchIf, effectOf, instructionOf}
+use Rattle.instruction.specs.Instructions.{endAt, branchTo, branchIf, effectOf, instructionOf}
 use Rattle.claims.specs.Pages.{pageOf}
 
 -- the count that the code answers for a page of these halfwords
@@ -55,7 +55,7 @@ pub record Starred : Type 0 where
   pub blt-taken : (ram : List ℕ) → instructionOf comparePage [] flagsSet ram ≡ goesOn branched ram
 
 pub starred : Starred
-unfolding greatestClosed allWithin successorsOf flowOf bundleAt serviceOf byLiteral literalOf callOf syscallOf addressOperationOf halfwordAt wordAt pageFits opens32 decodeBy matches instructionOf instructionAt standsIn following effectOf goOnAt branchIf branchTo withRegister withFlags withPlace
+unfolding greatestClosed allWithin successorsOf flowOf bundleAt serviceOf byLiteral literalOf callOf syscallOf addressOperationOf halfwordAt wordAt pageFits opens32 decodeBy matches instructionOf instructionAt standsIn following effectOf endAt branchIf branchTo withRegister withFlags withPlace
 starred = record {
   empty = refl;
   returns = refl;

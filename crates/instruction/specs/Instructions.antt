@@ -31,15 +31,10 @@ use Rattle.place.specs.Places.{instructionAt, following}
 
 -- ---- where it goes
 
--- on, at a place
-unfoldable pub goOnAt : ℕ → Outcome → Effect
-goOnAt place (does r ram) = goesOn (withPlace r place) ram
-goOnAt place (fails fault) = faults fault
-
--- it exits, at a place
-unfoldable pub exitAt : Exit → ℕ → Outcome → Effect
-exitAt exit place (does r ram) = exits exit (withPlace r place) ram
-exitAt exit place (fails fault) = faults fault
+-- once done, it goes on or exits, as `end` says, at a place; or it meets a fault
+unfoldable pub endAt : (Record → List ℕ → Effect) → ℕ → Outcome → Effect
+endAt end place (does r ram) = end (withPlace r place) ram
+endAt end place (fails fault) = faults fault
 
 -- a branch that is taken goes to the first half of its target; one that has none means nothing listed
 unfoldable pub branchTo : Record → List ℕ → Target → Effect
@@ -72,9 +67,9 @@ exitOf page n = cond (leb 0x01 n && leb n 0x7F) (byLiteral n (wordAt page n)) (d
 
 -- a terminator keeps its place at an exit, any other exit moves on
 unfoldable pub servedBy : Ending → Exit → ℕ → ℕ → Outcome → Effect
-servedBy ending.GoesOn exit here next o = goOnAt next o
-servedBy ending.Exit exit here next o = exitAt exit next o
-servedBy ending.LastExit exit here next o = exitAt exit here o
+servedBy ending.GoesOn exit here next o = endAt goesOn next o
+servedBy ending.Exit exit here next o = endAt (exits exit) next o
+servedBy ending.LastExit exit here next o = endAt (exits exit) here o
 servedBy ending.Bad exit here next o = unlisted
 
 unfoldable pub served : List ℕ → List ℕ → Record → List ℕ → ℕ → Effect
@@ -85,8 +80,8 @@ served page external r ram n =
 -- ---- every instruction
 
 unfoldable pub effectOf : List ℕ → List ℕ → Record → List ℕ → Instruction → Effect
-effectOf page external r ram (Data operation) = goOnAt (following page (r .place)) (does (computed operation r) ram)
-effectOf page external r ram (Memory access) = goOnAt (following page (r .place)) (accessed page external access r ram)
+effectOf page external r ram (Data operation) = endAt goesOn (following page (r .place)) (does (computed operation r) ram)
+effectOf page external r ram (Memory access) = endAt goesOn (following page (r .place)) (accessed page external access r ram)
 effectOf page external r ram (Cbz imm6 n) = cbz page imm6 n r ram
 effectOf page external r ram (Cbnz imm6 n) = cbnz page imm6 n r ram
 effectOf page external r ram (Bcc condition imm8) = bcc page condition imm8 r ram

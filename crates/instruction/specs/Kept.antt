@@ -34,11 +34,10 @@ use Rattle.compute.specs.Computed.{computed}
 use Rattle.access.specs.Outcomes.{Outcome, does, fails}
 use Rattle.access.specs.LoadsAndStores.{accessed}
 use Rattle.effects.specs.ServiceEffects.{serviceDoes}
-use Rattle.stop.specs.Stops.{Exit}
-use Rattle.plain.specs.PlainMachine.{Effect}
+use Rattle.plain.specs.PlainMachine.{Effect, goesOn, exits}
 use Rattle.place.specs.Places.{instructionAt, following, fitPlace}
 use Rattle.series.specs.Theorems.{Keeps}
-use Rattle.instruction.specs.Instructions.{goOnAt, exitAt, branchTo, branchIf, exitOf, servedBy, served, effectOf, instructionOf}
+use Rattle.instruction.specs.Instructions.{endAt, branchTo, branchIf, exitOf, servedBy, served, effectOf, instructionOf}
 use Rattle.instruction.specs.Fitness.{Fit, Starts, ServiceAt, exitColumn, Known}
 use Rattle.instruction.specs.FitPlaces.{LeadsFrom, leads, leads-listed}
 use Rattle.instruction.specs.FitRecords.{Leaves, computed-fits, accessed-leaves, service-leaves}
@@ -90,16 +89,11 @@ module _ (page external : List ℕ) (r : Record) (ram : List ℕ) (f : Fit page 
   unfolding fitRecord withPlace
   fit-at s after place h p = record { recordFits = h .0; placeFits = p; ramFits = h .1 }
 
-  on-kept : (place : ℕ) (o : Outcome) → Leaves (length external) o → fitPlace page place ≡ true → Kept (goOnAt place o)
-  unfolding goOnAt
-  on-kept place (does s after) h p = fit-at s after place h p
-  on-kept place (fails fault) h p = known fault
-
-  exit-kept : (exit : Exit) (place : ℕ) (o : Outcome) → Leaves (length external) o → fitPlace page place ≡ true
-      → ServiceAt page r exit → Kept (exitAt exit place o)
-  unfolding exitAt
-  exit-kept exit place (does s after) h p a = (fit-at s after place h p, a)
-  exit-kept exit place (fails fault) h p a = known fault
+  end-kept : (end : Record → List ℕ → Effect) → ((s : Record) (after : List ℕ) → Fit page external s after → Kept (end s after))
+      → (place : ℕ) (o : Outcome) → Leaves (length external) o → fitPlace page place ≡ true → Kept (endAt end place o)
+  unfolding endAt
+  end-kept end k place (does s after) h p = k _ _ (fit-at s after place h p)
+  end-kept end k place (fails fault) h p = known fault
 
   unchanged : Leaves (length external) (does r ram)
   unchanged = (f .recordFits, f .ramFits)
@@ -127,11 +121,11 @@ module _ (page external : List ℕ) (r : Record) (ram : List ℕ) (f : Fit page 
       → (o : Outcome) → Leaves (length external) o
       → Kept (servedBy e (exitOf page n) (r .place) (following page (r .place)) o)
   unfolding servedBy
-  service-kept n s ending.GoesOn e h o l = on-kept (following page (r .place)) o l h
+  service-kept n s ending.GoesOn e h o l = end-kept goesOn (λ _ _ k. k) (following page (r .place)) o l h
   service-kept n s ending.Exit e h o l =
-      exit-kept (exitOf page n) (following page (r .place)) o l h (exits-here n s (ap isExit e))
+      end-kept (exits (exitOf page n)) (λ _ _ k. (k, exits-here n s (ap isExit e))) (following page (r .place)) o l h
   service-kept n s ending.LastExit e h o l =
-      exit-kept (exitOf page n) (r .place) o l (f .placeFits) (exits-here n s (ap isExit e))
+      end-kept (exits (exitOf page n)) (λ _ _ k. (k, exits-here n s (ap isExit e))) (r .place) o l (f .placeFits)
   service-kept n s ending.Bad e h o l = absurd h
 
   -- ---- every instruction
@@ -140,10 +134,10 @@ module _ (page external : List ℕ) (r : Record) (ram : List ℕ) (f : Fit page 
       → Kept (effectOf page external r ram i)
   unfolding flowOf effectOf served
   each-kept (Data operation) s h =
-      on-kept (following page (r .place)) (does (computed operation r) ram)
+      end-kept goesOn (λ _ _ k. k) (following page (r .place)) (does (computed operation r) ram)
       (computed-fits operation r (length external) (f .recordFits), f .ramFits) h
   each-kept (Memory access) s h =
-      on-kept (following page (r .place)) (accessed page external access r ram)
+      end-kept goesOn (λ _ _ k. k) (following page (r .place)) (accessed page external access r ram)
       (accessed-leaves (length external) r ram (f .recordFits) (f .ramFits) page external access) h
   each-kept (Cbz imm6 n) s h = if-kept (eqb (register r n) 0) (targetOf (r .place) (pos imm6)) h
   each-kept (Cbnz imm6 n) s h = if-kept (not (eqb (register r n) 0)) (targetOf (r .place) (pos imm6)) h

@@ -28,9 +28,9 @@ use Rattle.state.specs.declared.Record.{Record}
 use Rattle.access.specs.Outcomes.{Outcome, does, fails}
 use Rattle.effects.specs.ServiceEffects.{serviceDoes}
 use Rattle.stop.specs.Stops.{Exit}
-use Rattle.plain.specs.PlainMachine.{unlisted}
+use Rattle.plain.specs.PlainMachine.{goesOn, exits, unlisted}
 use Rattle.place.specs.Places.{instructionAt, following}
-use Rattle.instruction.specs.Instructions.{goOnAt, exitAt, branchTo, branchIf, exitOf, servedBy, served, effectOf, instructionOf}
+use Rattle.instruction.specs.Instructions.{endAt, branchTo, branchIf, exitOf, servedBy, served, effectOf, instructionOf}
 
 -- a service is bad if its literal is missing or bad; a target if it lies before the page or inside a bundle
 abbrev pub Meaningless : List ℕ → Record → Instruction → Type 0
@@ -45,13 +45,13 @@ Meaningless page r Unlisted = Unit {0}
 
 -- ---- what answers with it
 
-not-on : (place : ℕ) (o : Outcome) → goOnAt place o ≡ unlisted → ⊥
-unfolding goOnAt
+not-on : (place : ℕ) (o : Outcome) → endAt goesOn place o ≡ unlisted → ⊥
+unfolding endAt
 not-on place (does r ram) e = true≢false cc
 not-on place (fails fault) e = true≢false cc
 
-not-exit : (exit : Exit) (place : ℕ) (o : Outcome) → exitAt exit place o ≡ unlisted → ⊥
-unfolding exitAt
+not-exit : (exit : Exit) (place : ℕ) (o : Outcome) → endAt (exits exit) place o ≡ unlisted → ⊥
+unfolding endAt
 not-exit exit place (does r ram) e = true≢false cc
 not-exit exit place (fails fault) e = true≢false cc
 

@@ -14,14 +14,15 @@ use Rattle.service.specs.declared.Ending.{Ending}
 use Rattle.service.specs.declared.Service.{Service}
 use Rattle.memory.specs.Faults.{faultNumber}
 use Rattle.state.specs.declared.Record.{Record}
-use Rattle.access.specs.Outcomes.{Outcome, does, fails, didOf}
+use Rattle.access.specs.declared.Did.{Did}
+use Rattle.access.specs.Outcomes.{Outcome, does, fails, didOf, Does}
 use Rattle.access.specs.Outcomes as outcomes
 use Rattle.effects.specs.ServiceEffects.{serviceDoes}
 use Rattle.stop.specs.Stops.{Exit, direct, byLiteral, service, fault, mark}
 use Rattle.plain.specs.PlainMachine.{Effect, goesOn, exits, faults, unlisted, Result, onward, plain}
 use Rattle.plain.specs.Theorems.{turn}
 use Rattle.place.specs.Places.{following}
-use Rattle.instruction.specs.Instructions.{goOnAt, exitAt, branchTo, branchIf, exitOf, servedBy, served}
+use Rattle.instruction.specs.Instructions.{endAt, branchTo, branchIf, exitOf, servedBy, served}
 use Rattle.machine.specs.Executed.{exitEnd, executedOf, ramOf, Executes, endedBy}
 use Rattle.machine.specs.declared.End.{End}
 use Rattle.machine.specs.declared.End.the-variants.{GoesOn, Exits, ExitsBy, Fails, Mark}
@@ -29,27 +30,25 @@ use Rattle.machine.specs.declared.Executed.{Executed}
 
 -- ---- one instruction
 
-pub on-executed : (r : Record) (place : ℕ) (o : Outcome)
-    → endedBy GoesOn place (didOf r o .met) (didOf r o .after) ≡ executedOf r (goOnAt place o)
-unfolding endedBy executedOf goOnAt didOf
-on-executed r place (does s ram) = refl
-on-executed r place (fails f) = refl
+-- the end by which the code says how an effect ends
+abbrev pub Ends : End → (Record → List ℕ → Effect) → Type 0
+Ends end effect = (r s : Record) (ram after : List ℕ) → Executes r ram (effect s after) (record { end = end; after = s }) after
 
-pub on-ram : (ram : List ℕ) (place : ℕ) (o : Outcome) → outcomes.ramOf ram o ≡ ramOf ram (goOnAt place o)
-unfolding goOnAt ramOf outcomes.ramOf
-on-ram ram place (does r after) = refl
-on-ram ram place (fails f) = refl
+pub goes-on : Ends GoesOn goesOn
+unfolding executedOf ramOf
+goes-on r s ram after = (refl, refl)
 
-pub exit-executed : (r : Record) (exit : Exit) (place : ℕ) (o : Outcome)
-    → endedBy (exitEnd exit) place (didOf r o .met) (didOf r o .after) ≡ executedOf r (exitAt exit place o)
-unfolding endedBy executedOf exitAt didOf
-exit-executed r exit place (does s ram) = refl
-exit-executed r exit place (fails f) = refl
+pub exits-so : (exit : Exit) → Ends (exitEnd exit) (exits exit)
+unfolding executedOf ramOf
+exits-so exit r s ram after = (refl, refl)
 
-pub exit-ram : (ram : List ℕ) (exit : Exit) (place : ℕ) (o : Outcome) → outcomes.ramOf ram o ≡ ramOf ram (exitAt exit place o)
-unfolding exitAt ramOf outcomes.ramOf
-exit-ram ram exit place (does r after) = refl
-exit-ram ram exit place (fails f) = refl
+-- done as an outcome says, and it ends so at a place
+pub ends : (end : End) (effect : Record → List ℕ → Effect) → Ends end effect
+    → (r : Record) (ram after : List ℕ) (place : ℕ) (o : Outcome) (d : Did)
+    → Does r ram o d after → Executes r ram (endAt effect place o) (endedBy end place (d .met) (d .after)) after
+unfolding endedBy executedOf ramOf endAt didOf outcomes.ramOf
+ends end effect e r ram after place (does s m) d h = rw (h .0, h .1) (e r _ ram m)
+ends end effect e r ram after place (fails f) d h = rw (h .0, h .1) (refl, refl)
 
 -- a branch changes no RAM
 pub branch-ram : (r : Record) (ram : List ℕ) (t : Target) → ram ≡ ramOf ram (branchTo r ram t)

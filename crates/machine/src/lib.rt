@@ -5,11 +5,11 @@ ghost use lib.ListN.{length};
 ghost use Rattle.branch.specs.Theorems.{Near};
 ghost use Rattle.memory.specs.declared.Stored.the-variants.{Done};
 ghost use Rattle.compute.specs.Computed as computing;
-ghost use Rattle.plain.specs.PlainMachine.{plain};
+ghost use Rattle.plain.specs.PlainMachine.{unlisted, plain};
 ghost use Rattle.place.specs.Places.{following};
 ghost use Rattle.instruction.specs.Instructions as instructions;
 ghost use Rattle.instruction.specs.Instructions.{branchTo, branchIf, exitOf, served, effectOf, instructionOf};
-ghost use Rattle.machine.specs.Executed.{exitEnd, endedBy, Executes, ExecutesAny};
+ghost use Rattle.machine.specs.Executed.{exitEnd, executedOf, endedBy, Executes, ExecutesAny};
 ghost use Rattle.machine.specs.Runs.{seen, Gives};
 use access::Did;
 use branch::Target;
@@ -66,6 +66,16 @@ fn ended(d: Did, end: End, place: u16) -> Executed
     }
 }
 
+// The mark of what is not listed; nothing changes.
+fn marked(r: Record) -> Executed
+    ensures { λ x. ⌜ x ≡ executedOf r unlisted ⌝ }
+{
+    Executed {
+        end: End::Mark,
+        after: r,
+    }
+}
+
 // The place behind the instruction.
 fn next_place(page: &[u8], place: u16) -> u16
     requires { ⌜ place < 128 ⌝ }
@@ -80,10 +90,7 @@ fn branch_to(r: Record, t: Target) -> Executed
     ensures { λ x. ⌜ ExecutesAny r (λ m. branchTo r m t) x ⌝ }
 {
     match t {
-        Target::Bad => Executed {
-            end: End::Mark,
-            after: r,
-        },
+        Target::Bad => marked(r),
         Target::At(b) => Executed {
             end: End::GoesOn,
             after: state::set_place(r, (2 * b) as u16),
@@ -180,10 +187,7 @@ fn serve(page: &[u8], external: &[u8], n: u8, r: Record, ram: &mut [u8]) -> Exec
             exit_end(page, n),
             r.place,
         ),
-        Ending::Bad => Executed {
-            end: End::Mark,
-            after: r,
-        },
+        Ending::Bad => marked(r),
     }
 }
 
@@ -220,10 +224,7 @@ fn perform(page: &[u8], external: &[u8], i: Instruction, r: Record, ram: &mut [u
         Instruction::Bcc(condition, imm8) => bcc(page, condition, imm8, r),
         Instruction::B(imm11) => b(imm11, r),
         Instruction::Service(n) => serve(page, external, n, r, ram),
-        Instruction::Unlisted => Executed {
-            end: End::Mark,
-            after: r,
-        },
+        Instruction::Unlisted => marked(r),
     }
 }
 
@@ -235,10 +236,7 @@ fn execute(page: &[u8], external: &[u8], r: Record, ram: &mut [u8]) -> Executed
     if ((r.place / 2) as usize) < page.len() / 4 {
         perform(page, external, place::instruction_at(page, r.place), r, ram)
     } else {
-        Executed {
-            end: End::Mark,
-            after: r,
-        }
+        marked(r)
     }
 }
 

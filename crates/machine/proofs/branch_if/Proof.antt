@@ -1,9 +1,5 @@
 use Rattle.machine.specs.Executed.{executedOf}
 use Rattle.instruction.specs.Instructions.{branchIf}
-use Rattle.machine.specs.Executed.{executedOf}
-use Rattle.instruction.specs.Instructions.{branchIf}
-use Rattle.machine.specs.Executed.{executedOf}
-use Rattle.instruction.specs.Instructions.{branchIf}
 use borrow.Author.Needs.{needs}
 use Rattle.machine.proofs.branch_if.Statement.{statement}
 use Rattle.machine.proofs.branch_if.Tie as tie

@@ -1,7 +1,3 @@
-use Rattle.machine.specs.Executed.{executedOf}
-use Rattle.instruction.specs.Instructions.{branchTo}
-use Rattle.machine.specs.Executed.{executedOf}
-use Rattle.instruction.specs.Instructions.{branchTo}
 use native.Mathlib.Omega.{arith}
 use Rattle.machine.specs.Executed.{executedOf}
 use Rattle.instruction.specs.Instructions.{branchTo}
@@ -11,6 +7,9 @@ use Rattle.machine.proofs.branch_to.Tie as tie
 
 enum-told : tie.Need-enum-told
 enum-told c = search needs
+
+marked-requires : tie.Need-marked-requires
+marked-requires c κs = search needs
 
 enum-known-t : tie.Need-enum-known-t
 enum-known-t c = search needs
@@ -25,8 +24,8 @@ set-place-requires : tie.Need-set-place-requires
 set-place-requires c κs = search needs
 
 returns : tie.Need-returns
-unfolding branchTo executedOf
-returns c = λ m. rw (c .enum-told .given .1)
+unfolding branchTo
+returns c = λ m. rw (c .before .enum-told .given .1) (c .marked .ensures)
 
 returns-2 : tie.Need-returns-2
 unfolding branchTo executedOf
@@ -37,6 +36,7 @@ branch-to-spec =
     tie.close
     (tie.spec
     enum-told
+    marked-requires
     enum-known-t
     mul-set-place
     cast-set-place

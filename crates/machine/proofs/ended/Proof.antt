@@ -1,6 +1,4 @@
 use Rattle.machine.specs.Executed.{endedBy}
-use Rattle.machine.specs.Executed.{endedBy}
-use Rattle.machine.specs.Executed.{endedBy}
 use borrow.Author.Needs.{needs}
 use Rattle.machine.proofs.ended.Statement.{statement}
 use Rattle.machine.proofs.ended.Tie as tie

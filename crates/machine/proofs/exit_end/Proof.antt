@@ -1,12 +1,6 @@
 use borrow.Author.Tests.{lt-leb, le-leb}
 use Rattle.machine.specs.Executed.{exitEnd}
 use Rattle.instruction.specs.Instructions.{exitOf}
-use borrow.Author.Tests.{lt-leb, le-leb}
-use Rattle.machine.specs.Executed.{exitEnd}
-use Rattle.instruction.specs.Instructions.{exitOf}
-use borrow.Author.Tests.{lt-leb, le-leb}
-use Rattle.machine.specs.Executed.{exitEnd}
-use Rattle.instruction.specs.Instructions.{exitOf}
 use borrow.Author.Needs.{needs}
 use Rattle.machine.proofs.exit_end.Statement.{statement}
 use Rattle.machine.proofs.exit_end.Tie as tie

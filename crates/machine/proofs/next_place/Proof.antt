@@ -1,9 +1,5 @@
 use Rattle.machine.proofs.Laws.{behind-near}
-use Rattle.machine.proofs.Laws.{behind-near}
-use Rattle.machine.proofs.Laws.{behind-near}
-use Rattle.machine.proofs.Laws.{behind-near}
 use native.Mathlib.Omega.{arith}
-use Rattle.machine.proofs.Laws.{behind-near}
 use borrow.Author.Needs.{needs}
 use Rattle.machine.proofs.next_place.Statement.{statement}
 use Rattle.machine.proofs.next_place.Tie as tie

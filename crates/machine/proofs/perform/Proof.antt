@@ -1,8 +1,8 @@
-use mathlib.Core.Path.{refl, _∙_}
-use Rattle.machine.proofs.Laws.{on-executed, on-ram, branch-ram, branch-if-ram}
+use mathlib.Core.Path.{refl}
+use Rattle.machine.proofs.Laws.{goes-on, ends, branch-ram, branch-if-ram}
 use Rattle.access.specs.Outcomes.{does, didOf}
 use Rattle.access.specs.Outcomes as outcomes
-use Rattle.machine.specs.Executed.{executedOf, ramOf}
+use Rattle.machine.specs.Executed.{ramOf}
 use Rattle.instruction.specs.Instructions.{effectOf}
 use borrow.Author.Needs.{needs}
 use Rattle.machine.proofs.perform.Statement.{statement}
@@ -65,18 +65,21 @@ serve-requires c κs = search needs
 enum-told : tie.Need-enum-told
 enum-told c = search needs
 
+marked-requires : tie.Need-marked-requires
+marked-requires c κs = search needs
+
 returns : tie.Need-returns
 unfolding effectOf didOf outcomes.ramOf
-returns c = rw (c .before .before .before .before .i .given .1, c .ended .ensures, c .before .next-place .ensures, c .before .before .computed .ensures)
-    (on-executed _ _ (does _ _), on-ram _ _ (does _ _))
+returns c = rw (c .before .before .before .before .i .given .1, c .ended .ensures, c .before .next-place .ensures)
+    (ends _ _ goes-on _ _ _ _ (does _ _) _ (c .before .before .computed .ensures, refl))
 
 same-length : tie.Need-same-length
 same-length c = search needs
 
 returns-2 : tie.Need-returns-2
 unfolding effectOf
-returns-2 c = rw (c .before .before .before .before .before .before .before .i2 .given .1, c .ended2 .ensures, c .before .next-place2 .ensures, c .before .before .before .before .perform .ensures .0)
-    (on-executed _ _ _, c .before .before .before .before .perform .ensures .1 ∙ on-ram _ _ _)
+returns-2 c = rw (c .before .before .before .before .before .before .before .i2 .given .1, c .ended2 .ensures, c .before .next-place2 .ensures)
+    (ends _ _ goes-on _ _ _ _ _ _ (c .before .before .before .before .perform .ensures))
 
 returns-3 : tie.Need-returns-3
 unfolding effectOf
@@ -102,8 +105,8 @@ unfolding effectOf
 returns-7 c = rw (c .before .before .before .before .before .i7 .given .1) (c .before .before .serve .ensures)
 
 returns-8 : tie.Need-returns-8
-unfolding effectOf executedOf ramOf
-returns-8 c = rw (c .enum-told .given .1) (refl, refl)
+unfolding effectOf ramOf
+returns-8 c = rw (c .before .enum-told .given .1) (c .marked .ensures, refl)
 
 pub perform-spec : {M : Type 1} → statement M
 perform-spec =
@@ -128,6 +131,7 @@ perform-spec =
     enum-known-i-7
     serve-requires
     enum-told
+    marked-requires
     returns
     same-length
     returns-2

@@ -1,14 +1,6 @@
-use mathlib.Core.Path.{refl, _∙_}
-use Rattle.machine.proofs.Laws.{on-executed, on-ram, exit-executed, exit-ram, serving}
-use Rattle.machine.specs.Executed.{executedOf, ramOf}
-use Rattle.instruction.specs.Instructions.{servedBy}
-use mathlib.Core.Path.{refl, _∙_}
-use Rattle.machine.proofs.Laws.{on-executed, on-ram, exit-executed, exit-ram, serving}
-use Rattle.machine.specs.Executed.{executedOf, ramOf}
-use Rattle.instruction.specs.Instructions.{servedBy}
-use mathlib.Core.Path.{refl, _∙_}
-use Rattle.machine.proofs.Laws.{on-executed, on-ram, exit-executed, exit-ram, serving}
-use Rattle.machine.specs.Executed.{executedOf, ramOf}
+use mathlib.Core.Path.{refl}
+use Rattle.machine.proofs.Laws.{goes-on, exits-so, ends, serving}
+use Rattle.machine.specs.Executed.{ramOf}
 use Rattle.instruction.specs.Instructions.{servedBy}
 use borrow.Author.Needs.{needs}
 use Rattle.machine.proofs.serve.Statement.{statement}
@@ -59,6 +51,9 @@ ended-requires-3 c κs = search needs
 enum-told-4 : tie.Need-enum-told-4
 enum-told-4 c = search needs
 
+marked-requires : tie.Need-marked-requires
+marked-requires c κs = search needs
+
 same-length : tie.Need-same-length
 same-length c = search needs
 
@@ -68,10 +63,9 @@ returns c = rw (
   serving _ _ _ _ _ _ _ (c .before .before .before .before .before .before .before .before .before .service-of .ensures) (c .before .before .before .before .before .before .before .ending-of .ensures),
   c .before .before .before .before .before .enum-told .given .1,
   c .ended .ensures,
-  c .before .before .before .serve .ensures .0,
   c .before .before .before .before .before .before .before .before .next-place .ensures,
 )
-    (on-executed _ _ _, c .before .before .before .serve .ensures .1 ∙ on-ram _ _ _)
+    (ends _ _ goes-on _ _ _ _ _ _ (c .before .before .before .serve .ensures))
 
 same-length-2 : tie.Need-same-length-2
 same-length-2 c = search needs
@@ -83,10 +77,9 @@ returns-2 c = rw (
   c .before .before .before .before .before .before .enum-told2 .given .1,
   c .ended2 .ensures,
   c .before .exit-end .ensures,
-  c .before .before .before .before .serve2 .ensures .0,
   c .before .before .before .before .before .before .before .before .before .next-place .ensures,
 )
-    (exit-executed _ _ _ _, c .before .before .before .before .serve2 .ensures .1 ∙ exit-ram _ _ _ _)
+    (ends _ _ (exits-so _) _ _ _ _ _ _ (c .before .before .before .before .serve2 .ensures))
 
 same-length-3 : tie.Need-same-length-3
 same-length-3 c = search needs
@@ -98,13 +91,12 @@ returns-3 c = rw (
   c .before .before .before .before .before .before .enum-told3 .given .1,
   c .ended3 .ensures,
   c .before .exit-end2 .ensures,
-  c .before .before .before .before .serve3 .ensures .0,
 )
-    (exit-executed _ _ _ _, c .before .before .before .before .serve3 .ensures .1 ∙ exit-ram _ _ _ _)
+    (ends _ _ (exits-so _) _ _ _ _ _ _ (c .before .before .before .before .serve3 .ensures))
 
 returns-4 : tie.Need-returns-4
-unfolding servedBy executedOf ramOf
-returns-4 c = rw (serving _ _ _ _ _ _ _ (c .before .before .before .before .service-of .ensures) (c .before .before .ending-of .ensures), c .enum-told4 .given .1) (refl, refl)
+unfolding servedBy ramOf
+returns-4 c = rw (serving _ _ _ _ _ _ _ (c .before .before .before .before .before .service-of .ensures) (c .before .before .before .ending-of .ensures), c .before .enum-told4 .given .1) (c .marked .ensures, refl)
 
 pub serve-spec : {M : Type 1} → statement M
 serve-spec =
@@ -125,6 +117,7 @@ serve-spec =
     exit-end-requires-2
     ended-requires-3
     enum-told-4
+    marked-requires
     same-length
     returns
     same-length-2
