@@ -314,6 +314,13 @@ impl Machine<'_> {
                 m,
                 d,
             } => self.write(d, extend(self.r(m), width, signed)),
+            other => self.compute_wide(other),
+        }
+    }
+
+    /// The same for 32-bit instructions.
+    fn compute_wide(&mut self, instruction: Instruction) {
+        match instruction {
             Instruction::Movw { d, constant } => self.write(d, constant),
             Instruction::Movt { d, constant } => {
                 self.write(d, constant << 16 | (self.r(d) & 0xFFFF));
