@@ -12,9 +12,11 @@ use Rattle.refusal.specs.declared.Refusal.{Refusal}
 use Rattle.refusal.specs.declared.Verdict.the-variants.{Refused}
 use Rattle.stop.specs.Stops.{refused}
 use Rattle.admission.specs.RunRefusals.{runVerdict}
-use Rattle.layout.specs.StoredForm.{storedForm, decode, recordIn, isRecord, holdsRecord}
-use Rattle.layout.specs.Theorems.{bytes-kept}
-use Rattle.host.specs.HostRuns.{stopNumbers, hostRun}
+use Rattle.state.specs.declared.Record.{Record}
+use Rattle.machine.specs.Runs.{runOf}
+use Rattle.layout.specs.StoredForm.{storedForm, decode, recordBytes, recordIn, isRecord, holdsRecord}
+use Rattle.layout.specs.Theorems.{Held, record-holds, record-kept, bytes-kept}
+use Rattle.host.specs.HostRuns.{stopNumbers, crossing, hostRun}
 
 -- a run that is refused leaves every byte of the record and of RAM
 pub refused-keeps : (page external bytes ram : List ℕ) (total : ℕ) (why : Refusal) → holdsRecord bytes ≡ true → ((k : ℕ) → getD bytes k 0 < 256)
@@ -23,3 +25,9 @@ pub refused-keeps : (page external bytes ram : List ℕ) (total : ℕ) (why : Re
 refused-keeps page external bytes ram total why holds h e =
     let p = both (eqb (length bytes) 44) (isRecord (decode storedForm bytes)) holds in
     rw (holds, e, bytes-kept bytes (p .1) (eqb-true (length bytes) 44 (p .0)) h)
+
+-- a record handed over as its bytes is the record itself, so that calls of a host, each handed the bytes that the call before gave,
+-- are the series of runs that demand 3 is about
+pub handed-on : (page external ram : List ℕ) (total : ℕ) (r : Record) → Held r
+    → hostRun page external total (recordBytes r) ram ≡ crossing (runOf page external total r ram)
+handed-on page external ram total r h = rw (record-holds r h, record-kept r h)
