@@ -1,4 +1,4 @@
-// The calls that a host links, in C's way: each answers 0 or a refusal's number, and gives the rest in lent numbers and bytes.
+// The calls that a host links, in C's way: each answers 0, a refusal's number or NO_RECORD, and gives the rest in lent numbers and bytes.
 // A record crosses as its 44 bytes, fit or not.
 ghost use mathlib.Core.Path.{_≡_};
 ghost use mathlib.Core.Bool.{cond};
