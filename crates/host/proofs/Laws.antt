@@ -1,16 +1,16 @@
 -- A run's answer as it crosses. Assumes nothing.
 use Prim.Native.Nat.{ℕ}
-use mathlib.Core.Bool.{true, cond}
+use mathlib.Core.Bool.{true}
 use mathlib.Core.List.{List}
 use mathlib.Core.Path.{_≡_}
-use lib.Dec.{eqb}
 use lib.ListN.{length}
-use Rattle.laws.specs.Tests.{both}
+use borrow.Author.Tests.{eq-eqb}
 use Rattle.state.specs.declared.Record.{Record}
 use Rattle.stop.specs.Stops.{reasonOf}
 use Rattle.machine.specs.Runs.{Gives}
 use Rattle.machine.specs.declared.Answer as machine
-use Rattle.layout.specs.StoredForm.{storedForm, decode, recordIn, roomWith, isRecord, holdsRecord}
+use Rattle.layout.specs.StoredForm.{recordIn, roomWith, holdsRecord}
+use Rattle.layout.specs.Theorems.{held}
 use Rattle.host.specs.HostRuns.{stopNumbers, hostRun}
 use Rattle.host.specs.declared.StopNumbers.{StopNumbers}
 
@@ -18,4 +18,4 @@ pub crosses : (page external bytes ram : List ℕ) (total : ℕ) (r : Record) (a
     → holdsRecord bytes ≡ true → r ≡ recordIn bytes → Gives page external total r ram a after → numbers ≡ stopNumbers (reasonOf (a .stop))
     → room ≡ roomWith (a .after) bytes → record { stop = numbers; steps = a .steps; bytes = room; ram = after } ≡ hostRun page external total bytes ram
 crosses page external bytes ram total r a numbers room after holds e gives n w =
-    rw (holds, n, w, both (eqb (length bytes) 44) (isRecord (decode storedForm bytes)) holds .0, ← e, ← gives)
+    rw (holds, n, w, eq-eqb (length bytes) 44 (held bytes holds .0), ← e, ← gives)

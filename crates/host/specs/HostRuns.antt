@@ -26,6 +26,11 @@ pub record Answer : Type 0 where
   pub bytes : List ℕ
   pub ram : List ℕ
 
+-- the same, from the numbers and bytes that it comes in
+abbrev pub answered : ℕ → ℕ → ℕ → ℕ → ℕ → List ℕ → List ℕ → Answer
+answered code kind value literal steps bytes ram =
+    record { stop = record { code = code; kind = kind; value = value; literal = literal }; steps = steps; bytes = bytes; ram = ram }
+
 -- a record as its bytes
 abbrev pub crossing : Result → Answer
 crossing r = record { stop = stopNumbers (r .stop); steps = r .steps; bytes = recordBytes (r .rec); ram = r .ram }

@@ -2,11 +2,8 @@
 use Prim.Native.Nat.{ℕ, _<_}
 use mathlib.Core.Bool.{true}
 use mathlib.Core.List.{List}
-use mathlib.Core.Path.{_≡_, ap}
-use borrow.Author.Tests.{eqb-true}
-use lib.Dec.{eqb}
-use lib.ListN.{length, getD}
-use Rattle.laws.specs.Tests.{both}
+use mathlib.Core.Path.{_≡_}
+use lib.ListN.{getD}
 use Rattle.refusal.specs.Refusals.{numberOf}
 use Rattle.refusal.specs.declared.Refusal.{Refusal}
 use Rattle.refusal.specs.declared.Verdict.the-variants.{Refused}
@@ -14,8 +11,8 @@ use Rattle.stop.specs.Stops.{refused}
 use Rattle.admission.specs.RunRefusals.{runVerdict}
 use Rattle.state.specs.declared.Record.{Record}
 use Rattle.machine.specs.Runs.{runOf}
-use Rattle.layout.specs.StoredForm.{storedForm, decode, recordBytes, recordIn, isRecord, holdsRecord}
-use Rattle.layout.specs.Theorems.{Held, record-holds, record-kept, bytes-kept}
+use Rattle.layout.specs.StoredForm.{recordBytes, recordIn, holdsRecord}
+use Rattle.layout.specs.Theorems.{held, Held, record-holds, record-kept, bytes-kept}
 use Rattle.host.specs.HostRuns.{stopNumbers, crossing, hostRun}
 
 -- a run that is refused leaves every byte of the record and of RAM
@@ -23,8 +20,8 @@ pub refused-keeps : (page external bytes ram : List ℕ) (total : ℕ) (why : Re
     → runVerdict page external (recordIn bytes) ram ≡ Refused why
     → hostRun page external total bytes ram ≡ record { stop = stopNumbers (refused (numberOf why)); steps = 0; bytes = bytes; ram = ram }
 refused-keeps page external bytes ram total why holds h e =
-    let p = both (eqb (length bytes) 44) (isRecord (decode storedForm bytes)) holds in
-    rw (holds, e, bytes-kept bytes (p .1) (eqb-true (length bytes) 44 (p .0)) h)
+    let p = held bytes holds in
+    rw (holds, e, bytes-kept bytes (p .1) (p .0) h)
 
 -- a record handed over as its bytes is the record itself, so that calls of a host, each handed the bytes that the call before gave,
 -- are the series of runs that demand 3 is about

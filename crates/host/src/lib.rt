@@ -11,7 +11,7 @@ ghost use Rattle.bundle.specs.Reader.{readBundle};
 ghost use Rattle.layout.specs.StoredForm.{kindOf, offsetOf, roomWith};
 ghost use Rattle.form.specs.Storing.{loadRecord};
 ghost use Rattle.host.specs.Crossing.{codeOf, noRecord, reachKind, reachLargest, roomCode, storeCode, storedRoom};
-ghost use Rattle.host.specs.HostRuns.{stopNumbers, hostRun};
+ghost use Rattle.host.specs.HostRuns.{stopNumbers, answered, hostRun};
 use prefix::Reach;
 use refusal::Verdict;
 use stop::Stop;
@@ -187,12 +187,7 @@ pub extern "C" fn mb_run(
     literal: &mut u32,
     steps: &mut u32,
 ) -> u32
-    ensures { λ code. ⌜ record {
-      stop = record { code = code; kind = now (kind .exit); value = now (value .exit); literal = now (literal .exit) };
-      steps = now (steps .exit);
-      bytes = now (bytes .exit);
-      ram = now (ram .exit);
-    }
+    ensures { λ code. ⌜ answered code (now (kind .exit)) (now (value .exit)) (now (literal .exit)) (now (steps .exit)) (now (bytes .exit)) (now (ram .exit))
         ≡ hostRun (now (page .entry)) (now (external .entry)) budget (now (bytes .entry)) (now (ram .entry)) ⌝ }
 {
     if !layout::holds_record(&bytes[..]) {
@@ -226,12 +221,7 @@ pub extern "C" fn mb_step(
     literal: &mut u32,
     steps: &mut u32,
 ) -> u32
-    ensures { λ code. ⌜ record {
-      stop = record { code = code; kind = now (kind .exit); value = now (value .exit); literal = now (literal .exit) };
-      steps = now (steps .exit);
-      bytes = now (bytes .exit);
-      ram = now (ram .exit);
-    }
+    ensures { λ code. ⌜ answered code (now (kind .exit)) (now (value .exit)) (now (literal .exit)) (now (steps .exit)) (now (bytes .exit)) (now (ram .exit))
         ≡ hostRun (now (page .entry)) (now (external .entry)) 1 (now (bytes .entry)) (now (ram .entry)) ⌝ }
 {
     mb_run(page, ram, external, bytes, 1, kind, value, literal, steps)

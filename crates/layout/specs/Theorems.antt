@@ -1,11 +1,11 @@
 -- The bytes of a record give it back, and bytes that hold a record are its bytes. Assumes nothing.
-use Prim.Native.Nat.{ℕ, zero, suc, _+_, _*_, _/_, _%_, _^_, _<_, _≤_}
+use Prim.Native.Nat.{ℕ, zero, suc, _/_, _%_, _^_, _<_, _≤_}
 use mathlib.Core.Path.{_≡_, refl, sym, ap, subst, _∙_}
 use mathlib.Core.Bool.{Bool, true, false, true≢false}
 use mathlib.Core.List.{List, [], _∷_, _++_}
 use native.Mathlib.Omega.{arith}
 use lib.Dec.{eqb, leb}
-use lib.ListN.{length, getD, take, drop, length-append, length-drop, take-append-drop}
+use lib.ListN.{length, getD, take, drop, length-drop, take-append-drop}
 use lib.Seq.{take-all}
 use borrow.Author.Tests.{eqb-true, leb-true, eq-eqb, le-leb}
 use Rattle.laws.specs.Runs.{run}
@@ -86,6 +86,13 @@ values-back values l t =
     elements-are 5 8 values (omega arith) ∙ take-all 5 (drop 8 values) (omega (arith, length-drop 8 values)) in
     rw (b .0, b .1, number-back (getD values 12 0) (leb-true _ 15 (p .1)))
     (ap (λ (rest : List ℕ). take 8 values ++ rest) e ∙ take-append-drop 8 values)
+
+-- ---- bytes that hold a record
+
+pub held : (bytes : List ℕ) → holdsRecord bytes ≡ true → (length bytes ≡ 44) × (isRecord (decode storedForm bytes) ≡ true)
+held bytes t =
+    let p = both (eqb (length bytes) 44) (isRecord (decode storedForm bytes)) t in
+    (eqb-true (length bytes) 44 (p .0), p .1)
 
 -- ---- the round trips
 
