@@ -3,14 +3,8 @@ use borrow.Author.Needs.{needs}
 use Rattle.access.proofs.load_at.Statement.{statement}
 use Rattle.access.proofs.load_at.Tie as tie
 
-stack-load-requires : tie.Need-stack-load-requires
-stack-load-requires c κs = search needs
-
-load-to-requires : tie.Need-load-to-requires
-load-to-requires c κs = search needs
-
 returns : tie.Need-returns
 returns c = rw (c .load-to .ensures, c .before .stack-load .ensures) (load-did _ _ _ _)
 
 pub load-at-spec : {M : Type 1} → statement M
-load-at-spec = tie.close (tie.spec stack-load-requires load-to-requires returns)
+load-at-spec = tie.close (tie.spec (λ c. search needs) (λ c. search needs) returns)

@@ -3,15 +3,6 @@ use borrow.Author.Needs.{needs}
 use Rattle.access.proofs.load_to.Statement.{statement}
 use Rattle.access.proofs.load_to.Tie as tie
 
-enum-known-l : tie.Need-enum-known-l
-enum-known-l c = search needs
-
-set-register-requires : tie.Need-set-register-requires
-set-register-requires c κs = search needs
-
-enum-known-l-2 : tie.Need-enum-known-l-2
-enum-known-l-2 c = search needs
-
 returns : tie.Need-returns
 unfolding loadDid
 returns c = rw (c .before .before .l .given .1, c .set-register .ensures)
@@ -21,5 +12,5 @@ unfolding loadDid
 returns-2 c = rw (c .before .l2 .given .1)
 
 pub load-to-spec : {M : Type 1} → statement M
-load-to-spec =
-    tie.close (tie.spec enum-known-l set-register-requires enum-known-l-2 returns returns-2)
+load-to-spec = tie.close (tie.spec (λ c. search needs) (λ c. search needs) (λ c. search needs)
+    returns returns-2)

@@ -4,9 +4,6 @@ use borrow.Author.Needs.{needs}
 use Rattle.access.proofs.stack_load.Statement.{statement}
 use Rattle.access.proofs.stack_load.Tie as tie
 
-ram-load-requires : tie.Need-ram-load-requires
-ram-load-requires c κs = search needs
-
 returns : tie.Need-returns
 unfolding stackLoaded
 returns c = rw (lt-ltb _ _ (c .if1 .taken))
@@ -16,4 +13,4 @@ unfolding stackLoaded
 returns-2 c = rw (le-ltb _ _ (c .before .if1 .left)) (c .ram-load .ensures)
 
 pub stack-load-spec : {M : Type 1} → statement M
-stack-load-spec = tie.close (tie.spec ram-load-requires returns returns-2)
+stack-load-spec = tie.close (tie.spec (λ c. search needs) returns returns-2)

@@ -5,19 +5,13 @@ use borrow.Author.Needs.{needs}
 use Rattle.access.proofs.stack_store.Statement.{statement}
 use Rattle.access.proofs.stack_store.Tie as tie
 
-ram-store-requires : tie.Need-ram-store-requires
-ram-store-requires c κs = search needs
-
 returns : tie.Need-returns
 unfolding stackStored afterStackStore
 returns c = rw (lt-ltb _ _ (c .if1 .taken)) (refl, refl)
-
-same-length : tie.Need-same-length
-same-length c = search needs
 
 returns-2 : tie.Need-returns-2
 unfolding stackStored afterStackStore
 returns-2 c = rw (le-ltb _ _ (c .before .before .before .before .if1 .left)) (c .before .before .ram-store .ensures)
 
 pub stack-store-spec : {M : Type 1} → statement M
-stack-store-spec = tie.close (tie.spec ram-store-requires returns same-length returns-2)
+stack-store-spec = tie.close (tie.spec (λ c. search needs) returns (λ c. search needs) returns-2)

@@ -3,15 +3,6 @@ use borrow.Author.Needs.{needs}
 use Rattle.access.proofs.store_base.Statement.{statement}
 use Rattle.access.proofs.store_base.Tie as tie
 
-register-of-requires : tie.Need-register-of-requires
-register-of-requires c κs = search needs
-
-store-by-requires : tie.Need-store-by-requires
-store-by-requires c κs = search needs
-
-same-length : tie.Need-same-length
-same-length c = search needs
-
 returns : tie.Need-returns
 returns c = (
   rw (c .before .before .store-by .ensures .0) (store-did _ _ _),
@@ -19,4 +10,5 @@ returns c = (
 )
 
 pub store-base-spec : {M : Type 1} → statement M
-store-base-spec = tie.close (tie.spec register-of-requires store-by-requires same-length returns)
+store-base-spec = tie.close (tie.spec (λ c. search needs) (λ c. search needs) (λ c. search needs)
+    returns)

@@ -5,9 +5,6 @@ use borrow.Author.Needs.{needs}
 use Rattle.admission.proofs.verdict_of.Statement.{statement}
 use Rattle.admission.proofs.verdict_of.Tie as tie
 
-fits-requires : tie.Need-fits-requires
-fits-requires c κs = search needs
-
 returns : tie.Need-returns
 unfolding runVerdict
 returns c = rw (sym (c .before .fits2 .ensures) ∙ not-true _ (c .if1 .taken))
@@ -16,22 +13,13 @@ returns-2 : tie.Need-returns-2
 unfolding runVerdict
 returns-2 c = rw (sym (c .before .before .fits2 .ensures) ∙ not-false _ (c .before .if1 .left), ne-eqb _ _ (c .if2 .taken))
 
-external-fits-requires : tie.Need-external-fits-requires
-external-fits-requires c κs = search needs
-
 returns-3 : tie.Need-returns-3
 unfolding runVerdict
 returns-3 c = rw (sym (c .before .before .before .before .fits2 .ensures) ∙ not-false _ (c .before .before .before .if1 .left), eq-eqb _ _ (c .before .before .if2 .left), sym (c .before .external-fits .ensures) ∙ not-true _ (c .if3 .taken))
 
-is-fit-requires : tie.Need-is-fit-requires
-is-fit-requires c κs = search needs
-
 returns-4 : tie.Need-returns-4
 unfolding runVerdict
 returns-4 c = rw (sym (c .before .before .before .before .before .before .fits2 .ensures) ∙ not-false _ (c .before .before .before .before .before .if1 .left), eq-eqb _ _ (c .before .before .before .before .if2 .left), sym (c .before .before .before .external-fits .ensures) ∙ not-false _ (c .before .before .if3 .left), sym (c .before .is-fit .ensures) ∙ not-true _ (c .if4 .taken))
-
-is-fit-requires-2 : tie.Need-is-fit-requires-2
-is-fit-requires-2 c κs = search needs
 
 returns-5 : tie.Need-returns-5
 unfolding runVerdict
@@ -42,16 +30,5 @@ unfolding runVerdict
 returns-6 c = rw (sym (c .before .before .before .before .before .before .before .before .fits2 .ensures) ∙ not-false _ (c .before .before .before .before .before .before .before .if1 .left), eq-eqb _ _ (c .before .before .before .before .before .before .if2 .left), sym (c .before .before .before .before .before .external-fits .ensures) ∙ not-false _ (c .before .before .before .before .if3 .left), sym (c .before .before .before .is-fit .ensures) ∙ not-false _ (c .before .before .if4 .left), sym (c .before .is-fit2 .ensures) ∙ not-false _ (c .if5 .left))
 
 pub verdict-of-spec : {M : Type 1} → statement M
-verdict-of-spec =
-    tie.close
-    (tie.spec
-    fits-requires
-    returns
-    returns-2
-    external-fits-requires
-    returns-3
-    is-fit-requires
-    returns-4
-    is-fit-requires-2
-    returns-5
-    returns-6)
+verdict-of-spec = tie.close (tie.spec (λ c. search needs) returns returns-2 (λ c. search needs)
+    returns-3 (λ c. search needs) returns-4 (λ c. search needs) returns-5 returns-6)

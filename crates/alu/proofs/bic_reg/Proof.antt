@@ -2,22 +2,9 @@ use borrow.Author.Needs.{needs}
 use Rattle.alu.proofs.bic_reg.Statement.{statement}
 use Rattle.alu.proofs.bic_reg.Tie as tie
 
-register-of-requires : tie.Need-register-of-requires
-register-of-requires c κs = search needs
-
-register-of-requires-2 : tie.Need-register-of-requires-2
-register-of-requires-2 c κs = search needs
-
-bic-requires : tie.Need-bic-requires
-bic-requires c κs = search needs
-
-logic-to-requires : tie.Need-logic-to-requires
-logic-to-requires c κs = search needs
-
 returns : tie.Need-returns
 returns c = rw (c .logic-to .ensures, c .before .bic .ensures, c .before .before .register-of2 .ensures, c .before .before .before .register-of .ensures)
 
 pub bic-reg-spec : {M : Type 1} → statement M
-bic-reg-spec =
-    tie.close
-    (tie.spec register-of-requires register-of-requires-2 bic-requires logic-to-requires returns)
+bic-reg-spec = tie.close (tie.spec (λ c. search needs) (λ c. search needs) (λ c. search needs)
+    (λ c. search needs) returns)

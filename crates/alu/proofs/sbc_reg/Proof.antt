@@ -2,31 +2,9 @@ use borrow.Author.Needs.{needs}
 use Rattle.alu.proofs.sbc_reg.Statement.{statement}
 use Rattle.alu.proofs.sbc_reg.Tie as tie
 
-register-of-requires : tie.Need-register-of-requires
-register-of-requires c κs = search needs
-
-register-of-requires-2 : tie.Need-register-of-requires-2
-register-of-requires-2 c κs = search needs
-
-carry-requires : tie.Need-carry-requires
-carry-requires c κs = search needs
-
-add-with-carry-requires : tie.Need-add-with-carry-requires
-add-with-carry-requires c κs = search needs
-
-sum-to-requires : tie.Need-sum-to-requires
-sum-to-requires c κs = search needs
-
 returns : tie.Need-returns
 returns c = rw (c .sum-to .ensures, c .before .add-with-carry .ensures, c .before .before .carry .ensures, c .before .before .before .register-of2 .ensures, c .before .before .before .before .register-of .ensures)
 
 pub sbc-reg-spec : {M : Type 1} → statement M
-sbc-reg-spec =
-    tie.close
-    (tie.spec
-    register-of-requires
-    register-of-requires-2
-    carry-requires
-    add-with-carry-requires
-    sum-to-requires
-    returns)
+sbc-reg-spec = tie.close (tie.spec (λ c. search needs) (λ c. search needs) (λ c. search needs)
+    (λ c. search needs) (λ c. search needs) returns)

@@ -2,18 +2,9 @@ use borrow.Author.Needs.{needs}
 use Rattle.alu.proofs.sxtb_reg.Statement.{statement}
 use Rattle.alu.proofs.sxtb_reg.Tie as tie
 
-register-of-requires : tie.Need-register-of-requires
-register-of-requires c κs = search needs
-
-sxtb-requires : tie.Need-sxtb-requires
-sxtb-requires c κs = search needs
-
-set-register-requires : tie.Need-set-register-requires
-set-register-requires c κs = search needs
-
 returns : tie.Need-returns
 returns c = rw (c .set-register .ensures, c .before .sxtb .ensures, c .before .before .register-of .ensures)
 
 pub sxtb-reg-spec : {M : Type 1} → statement M
-sxtb-reg-spec =
-    tie.close (tie.spec register-of-requires sxtb-requires set-register-requires returns)
+sxtb-reg-spec = tie.close (tie.spec (λ c. search needs) (λ c. search needs) (λ c. search needs)
+    returns)

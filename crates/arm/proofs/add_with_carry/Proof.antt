@@ -7,26 +7,8 @@ use borrow.Author.Needs.{needs}
 use Rattle.arm.proofs.add_with_carry.Statement.{statement}
 use Rattle.arm.proofs.add_with_carry.Tie as tie
 
-add-sum : tie.Need-add-sum
-add-sum c = search needs
-
-cast-sum : tie.Need-cast-sum
-cast-sum c = search needs
-
 add-sum-2 : tie.Need-add-sum-2
 add-sum-2 c = rw (one-bit (c .args .carry)) (omega (arith, one-bit-le (c .args .carry)))
-
-cast-value : tie.Need-cast-value
-cast-value c = search needs
-
-field-requires : tie.Need-field-requires
-field-requires c κs = search needs
-
-field-requires-2 : tie.Need-field-requires-2
-field-requires-2 c κs = search needs
-
-field-requires-3 : tie.Need-field-requires-3
-field-requires-3 c κs = search needs
 
 returns : tie.Need-returns
 returns c =
@@ -42,14 +24,5 @@ returns c =
     })
 
 pub add-with-carry-spec : {M : Type 1} → statement M
-add-with-carry-spec =
-    tie.close
-    (tie.spec
-    add-sum
-    cast-sum
-    add-sum-2
-    cast-value
-    field-requires
-    field-requires-2
-    field-requires-3
-    returns)
+add-with-carry-spec = tie.close (tie.spec (λ c. search needs) (λ c. search needs) add-sum-2
+    (λ c. search needs) (λ c. search needs) (λ c. search needs) (λ c. search needs) returns)

@@ -15,27 +15,6 @@ use Rattle.arm.proofs.asr_c.Tie as tie
 returns : tie.Need-returns
 returns c = rw (c .if1 .taken)
 
-sign-extended-requires : tie.Need-sign-extended-requires
-sign-extended-requires c κs = search needs
-
-at-most-32-requires : tie.Need-at-most-32-requires
-at-most-32-requires c κs = search needs
-
-shifted-right-requires : tie.Need-shifted-right-requires
-shifted-right-requires c κs = search needs
-
-low-word-requires : tie.Need-low-word-requires
-low-word-requires c κs = search needs
-
-sub-shifted-right : tie.Need-sub-shifted-right
-sub-shifted-right c = search needs
-
-shifted-right-requires-2 : tie.Need-shifted-right-requires-2
-shifted-right-requires-2 c κs = search needs
-
-is-odd-requires : tie.Need-is-odd-requires
-is-odd-requires c κs = search needs
-
 -- the integer that is shifted is the word's
 handed : (c : tie.After-sign-extended) → toZ w64 (ofZ w64 (c .sign-extended .result)) ≡ SInt 32 (c .before .before .args .x)
 handed c =
@@ -59,15 +38,5 @@ returns-2 c =
     })
 
 pub asr-c-spec : {M : Type 1} → statement M
-asr-c-spec =
-    tie.close
-    (tie.spec
-    returns
-    sign-extended-requires
-    at-most-32-requires
-    shifted-right-requires
-    low-word-requires
-    sub-shifted-right
-    shifted-right-requires-2
-    is-odd-requires
-    returns-2)
+asr-c-spec = tie.close (tie.spec returns (λ c. search needs) (λ c. search needs) (λ c. search needs)
+    (λ c. search needs) (λ c. search needs) (λ c. search needs) (λ c. search needs) returns-2)

@@ -52,21 +52,5 @@ returns-15 : tie.Need-returns-15
 returns-15 c = sym (List·getD-eq-default (conditions (c .before .args .f)) true (past 14 (c .match .rest)))
 
 pub condition-holds-spec : {M : Type 1} → statement M
-condition-holds-spec =
-    tie.close
-    (tie.spec
-    returns
-    returns-2
-    returns-3
-    returns-4
-    returns-5
-    returns-6
-    returns-7
-    returns-8
-    returns-9
-    returns-10
-    returns-11
-    returns-12
-    returns-13
-    returns-14
-    returns-15)
+condition-holds-spec = tie.close (tie.spec returns returns-2 returns-3 returns-4 returns-5 returns-6
+    returns-7 returns-8 returns-9 returns-10 returns-11 returns-12 returns-13 returns-14 returns-15)

@@ -16,12 +16,6 @@ returns-2 c =
     let p = past-32 x n (omega arith) in
     rw (ne-eqb _ _ (c .before .if1 .left), p .0, p .1)
 
-shl-wide : tie.Need-shl-wide
-shl-wide c = search needs
-
-cast-t8 : tie.Need-cast-t8
-cast-t8 c = search needs
-
 returns-3 : tie.Need-returns-3
 returns-3 c =
     let x = c .before .before .args .x in
@@ -29,4 +23,5 @@ returns-3 c =
     rw (ne-eqb _ _ (c .before .if1 .left), shl-exact {a = x} 32 n 64 (omega arith) (omega arith))
 
 pub lsl-c-spec : {M : Type 1} → statement M
-lsl-c-spec = tie.close (tie.spec returns returns-2 shl-wide cast-t8 returns-3)
+lsl-c-spec = tie.close (tie.spec returns returns-2 (λ c. search needs) (λ c. search needs)
+    returns-3)

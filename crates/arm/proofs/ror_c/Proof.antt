@@ -10,18 +10,6 @@ use Rattle.arm.proofs.ror_c.Tie as tie
 returns : tie.Need-returns
 returns c = rw (c .if1 .taken)
 
-cast-m : tie.Need-cast-m
-cast-m c = search needs
-
-shr-value : tie.Need-shr-value
-shr-value c = search needs
-
-sub-value : tie.Need-sub-value
-sub-value c = search needs
-
-shl-value : tie.Need-shl-value
-shl-value c = search needs
-
 cast-value : tie.Need-cast-value
 cast-value c = fits-or (fits-div (2 ^ (c .before .args .n % 32)) (c .before .fits .x)) (record { fits = omega arith })
 
@@ -32,4 +20,5 @@ returns-2 c =
     rw (ne-eqb _ _ (c .if1 .left), shl-exact {a = x} 32 (32 - n % 32) 64 (omega arith) (omega arith))
 
 pub ror-c-spec : {M : Type 1} → statement M
-ror-c-spec = tie.close (tie.spec returns cast-m shr-value sub-value shl-value cast-value returns-2)
+ror-c-spec = tie.close (tie.spec returns (λ c. search needs) (λ c. search needs) (λ c. search needs)
+    (λ c. search needs) cast-value returns-2)

@@ -13,12 +13,6 @@ use Rattle.arm.proofs.sdiv.Tie as tie
 returns : tie.Need-returns
 returns c = rw (c .if1 .taken)
 
-sign-extended-requires : tie.Need-sign-extended-requires
-sign-extended-requires c κs = search needs
-
-sign-extended-requires-2 : tie.Need-sign-extended-requires-2
-sign-extended-requires-2 c κs = search needs
-
 -- the integers that quotient is handed are the words'
 left : (c : tie.After-sign-extended2) → toZ w64 (ofZ w64 (c .before .sign-extended .result)) ≡ SInt 32 (c .before .before .before .args .x)
 left c =
@@ -37,9 +31,6 @@ quotient-requires c κs =
     let y = in-range (a .y) (omega arith) in
     rw (left c, right c) (x .0, y .0, y .1 (c .before .before .if1 .left))
 
-low-word-requires : tie.Need-low-word-requires
-low-word-requires c κs = search needs
-
 returns-2 : tie.Need-returns-2
 returns-2 c =
     let q = c .before .quotient in
@@ -47,12 +38,5 @@ returns-2 c =
     (c .low-word .ensures ∙ ap lowWord (read (q .result) (q .ok) ∙ (rw (left (c .before .before), right (c .before .before)) at (q .ensures))))
 
 pub sdiv-spec : {M : Type 1} → statement M
-sdiv-spec =
-    tie.close
-    (tie.spec
-    returns
-    sign-extended-requires
-    sign-extended-requires-2
-    quotient-requires
-    low-word-requires
-    returns-2)
+sdiv-spec = tie.close (tie.spec returns (λ c. search needs) (λ c. search needs) quotient-requires
+    (λ c. search needs) returns-2)

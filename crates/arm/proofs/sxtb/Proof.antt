@@ -4,16 +4,10 @@ use borrow.Author.Needs.{needs}
 use Rattle.arm.proofs.sxtb.Statement.{statement}
 use Rattle.arm.proofs.sxtb.Tie as tie
 
-sign-extended-requires : tie.Need-sign-extended-requires
-sign-extended-requires c κs = search needs
-
-low-word-requires : tie.Need-low-word-requires
-low-word-requires c κs = search needs
-
 returns : tie.Need-returns
 returns c =
     let e = c .before .sign-extended in
     c .low-word .ensures ∙ extended 8 (c .before .before .args .x) (e .result) (e .ok) (e .ensures)
 
 pub sxtb-spec : {M : Type 1} → statement M
-sxtb-spec = tie.close (tie.spec sign-extended-requires low-word-requires returns)
+sxtb-spec = tie.close (tie.spec (λ c. search needs) (λ c. search needs) returns)

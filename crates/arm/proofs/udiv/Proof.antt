@@ -3,9 +3,6 @@ use borrow.Author.Needs.{needs}
 use Rattle.arm.proofs.udiv.Statement.{statement}
 use Rattle.arm.proofs.udiv.Tie as tie
 
-div-result : tie.Need-div-result
-div-result c = search needs
-
 returns : tie.Need-returns
 returns c = rw (c .if1 .taken)
 
@@ -13,4 +10,4 @@ returns-2 : tie.Need-returns-2
 returns-2 c = rw (ne-eqb _ _ (c .if1 .left))
 
 pub udiv-spec : {M : Type 1} → statement M
-udiv-spec = tie.close (tie.spec div-result returns returns-2)
+udiv-spec = tie.close (tie.spec (λ c. search needs) returns returns-2)

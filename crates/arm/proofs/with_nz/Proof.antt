@@ -2,11 +2,8 @@ use borrow.Author.Needs.{needs}
 use Rattle.arm.proofs.with_nz.Statement.{statement}
 use Rattle.arm.proofs.with_nz.Tie as tie
 
-field-requires : tie.Need-field-requires
-field-requires c κs = search needs
-
 returns : tie.Need-returns
 returns c = rw (c .field .ensures)
 
 pub with-nz-spec : {M : Type 1} → statement M
-with-nz-spec = tie.close (tie.spec field-requires returns)
+with-nz-spec = tie.close (tie.spec (λ c. search needs) returns)

@@ -2,11 +2,8 @@ use borrow.Author.Needs.{needs}
 use Rattle.arm.proofs.with_nzc.Statement.{statement}
 use Rattle.arm.proofs.with_nzc.Tie as tie
 
-with-nz-requires : tie.Need-with-nz-requires
-with-nz-requires c κs = search needs
-
 returns : tie.Need-returns
 returns c = rw (c .with-nz .ensures)
 
 pub with-nzc-spec : {M : Type 1} → statement M
-with-nzc-spec = tie.close (tie.spec with-nz-requires returns)
+with-nzc-spec = tie.close (tie.spec (λ c. search needs) returns)

@@ -8,17 +8,8 @@ use Rattle.bits.proofs.field.Tie as tie
 returns : tie.Need-returns
 returns c = no-field (c .before .args .x) (c .before .args .lo) (c .before .args .n) (omega arith) (omega arith)
 
-shr-result : tie.Need-shr-result
-shr-result c = search needs
-
 returns-2 : tie.Need-returns-2
 returns-2 c = whole-field (c .before .before .args .x) (c .before .before .args .lo) (c .before .before .args .n) (omega arith) (omega arith)
-
-shr-result-2 : tie.Need-shr-result-2
-shr-result-2 c = search needs
-
-shl-result : tie.Need-shl-result
-shl-result c = search needs
 
 sub-result : tie.Need-sub-result
 sub-result c = rw (one-shl (c .before .before .args .n) (omega arith)) (pow-pos (c .before .before .args .n))
@@ -27,5 +18,5 @@ returns-3 : tie.Need-returns-3
 returns-3 c = shift-mask (c .before .before .args .x) (c .before .before .args .lo) (c .before .before .args .n) (omega arith)
 
 pub field-spec : {M : Type 1} → statement M
-field-spec =
-    tie.close (tie.spec returns shr-result returns-2 shr-result-2 shl-result sub-result returns-3)
+field-spec = tie.close (tie.spec returns (λ c. search needs) returns-2 (λ c. search needs)
+    (λ c. search needs) sub-result returns-3)

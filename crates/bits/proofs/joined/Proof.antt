@@ -11,12 +11,6 @@ use Rattle.bits.proofs.joined.Tie as tie
 returns : tie.Need-returns
 returns c = join-past (c .before .args .high) (c .before .args .low) (c .before .args .n) (omega arith) (omega arith)
 
-shl-result : tie.Need-shl-result
-shl-result c = search needs
-
-field-requires : tie.Need-field-requires
-field-requires c κs = search needs
-
 returns-2 : tie.Need-returns-2
 returns-2 c =
     let a = c .before .before .args in
@@ -24,4 +18,4 @@ returns-2 c =
     rw e (shift-or (a .high) (a .n) (a .low % 2 ^ a .n) 32 (omega arith) (mod-lt (a .low) (pow-pos (a .n))))
 
 pub joined-spec : {M : Type 1} → statement M
-joined-spec = tie.close (tie.spec returns shl-result field-requires returns-2)
+joined-spec = tie.close (tie.spec returns (λ c. search needs) (λ c. search needs) returns-2)

@@ -14,17 +14,8 @@ use Rattle.bits.proofs.sign_extended.Tie as tie
 returns : tie.Need-returns
 returns c = rw (c .if1 .taken, mod-one (c .before .args .x))
 
-cast-result : tie.Need-cast-result
-cast-result c = search needs
-
 returns-2 : tie.Need-returns-2
 returns-2 c = toZ-pos w64 (c .before .before .args .x) (omega arith) ∙ no-sign (c .before .before .args .x) (c .before .before .args .n) (omega arith) (omega arith)
-
-field-requires : tie.Need-field-requires
-field-requires c κs = search needs
-
-sub-signed : tie.Need-sub-signed
-sub-signed c = search needs
 
 signed-requires : tie.Need-signed-requires
 signed-requires c κs =
@@ -39,6 +30,5 @@ returns-3 c =
     read (c .signed .result) (c .signed .ok) ∙ (rw (c .before .field .ensures, e, div-one (a .x)) at (c .signed .ensures))
 
 pub sign-extended-spec : {M : Type 1} → statement M
-sign-extended-spec =
-    tie.close
-    (tie.spec returns cast-result returns-2 field-requires sub-signed signed-requires returns-3)
+sign-extended-spec = tie.close (tie.spec returns (λ c. search needs) returns-2 (λ c. search needs)
+    (λ c. search needs) signed-requires returns-3)

@@ -7,25 +7,10 @@ use borrow.Author.Needs.{needs}
 use Rattle.bits.proofs.signed.Statement.{statement}
 use Rattle.bits.proofs.signed.Tie as tie
 
-field-requires : tie.Need-field-requires
-field-requires c κs = search needs
-
-cast-result : tie.Need-cast-result
-cast-result c = search needs
-
-cast-result-2 : tie.Need-cast-result-2
-cast-result-2 c = search needs
-
-shl-result : tie.Need-shl-result
-shl-result c = search needs
-
 sub-result : tie.Need-sub-result
 sub-result c =
     let s = c .before .before in
     rw (less-whole (s .args .x) (s .args .top) (s .pre .0) (s .pre .1)) (less-fits (s .args .x) (s .args .top) (s .pre .0) (s .pre .1))
-
-cast-result-3 : tie.Need-cast-result-3
-cast-result-3 c = search needs
 
 returns : tie.Need-returns
 returns c =
@@ -41,14 +26,5 @@ returns-2 c =
     ∙ without-top (s .args .x) (s .args .top) (λ e. c .if1 .left (c .before .field .ensures ∙ e))
 
 pub signed-spec : {M : Type 1} → statement M
-signed-spec =
-    tie.close
-    (tie.spec
-    field-requires
-    cast-result
-    cast-result-2
-    shl-result
-    sub-result
-    cast-result-3
-    returns
-    returns-2)
+signed-spec = tie.close (tie.spec (λ c. search needs) (λ c. search needs) (λ c. search needs)
+    (λ c. search needs) sub-result (λ c. search needs) returns returns-2)

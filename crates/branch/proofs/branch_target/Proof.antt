@@ -11,9 +11,6 @@ use borrow.Author.Needs.{needs}
 use Rattle.branch.proofs.branch_target.Statement.{statement}
 use Rattle.branch.proofs.branch_target.Tie as tie
 
-sign-extended-requires : tie.Need-sign-extended-requires
-sign-extended-requires c κs = search needs
-
 -- what target_from is handed
 offset : (c : tie.After-sign-extended) → toZ w64 (ofZ w64 (c .sign-extended .result)) ≡ SInt 11 (bits (c .before .args .imm11) 10 0)
 offset c = offset-read 11 (c .before .args .imm11) (bits (c .before .args .imm11) 10 0) (c .sign-extended .result) (c .sign-extended .ok) (c .sign-extended .ensures) (omega arith)
@@ -25,4 +22,4 @@ returns : tie.Need-returns
 returns c = c .target-from .ensures ∙ ap (targetOf (c .before .before .args .place)) (offset (c .before))
 
 pub branch-target-spec : {M : Type 1} → statement M
-branch-target-spec = tie.close (tie.spec sign-extended-requires target-from-requires returns)
+branch-target-spec = tie.close (tie.spec (λ c. search needs) target-from-requires returns)

@@ -10,9 +10,6 @@ use borrow.Author.Needs.{needs}
 use Rattle.branch.proofs.conditional_target.Statement.{statement}
 use Rattle.branch.proofs.conditional_target.Tie as tie
 
-sign-extended-requires : tie.Need-sign-extended-requires
-sign-extended-requires c κs = search needs
-
 -- what target_from is handed
 offset : (c : tie.After-sign-extended) → toZ w64 (ofZ w64 (c .sign-extended .result)) ≡ SInt 8 (c .before .args .imm8)
 offset c = offset-read 8 (c .before .args .imm8) (c .before .args .imm8) (c .sign-extended .result) (c .sign-extended .ok) (c .sign-extended .ensures) (omega arith)
@@ -24,4 +21,4 @@ returns : tie.Need-returns
 returns c = c .target-from .ensures ∙ ap (targetOf (c .before .before .args .place)) (offset (c .before))
 
 pub conditional-target-spec : {M : Type 1} → statement M
-conditional-target-spec = tie.close (tie.spec sign-extended-requires target-from-requires returns)
+conditional-target-spec = tie.close (tie.spec (λ c. search needs) target-from-requires returns)

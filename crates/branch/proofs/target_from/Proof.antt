@@ -20,15 +20,6 @@ sum-is : (c : tie.Start)
     → toZ w64 (pc c) +ℤ toZ w64 (ofZ w64 (pos 2 *ℤ toZ w64 (ofZ w64 (c .args .offset)))) ≡ pos (pc c) +ℤ (pos 2 *ℤ c .args .offset)
 sum-is c = sum-read (pc c) (c .args .offset) (omega arith) (c .pre)
 
-mul-pc : tie.Need-mul-pc
-mul-pc c = search needs
-
-add-pc : tie.Need-add-pc
-add-pc c = search needs
-
-cast-bundle-at : tie.Need-cast-bundle-at
-cast-bundle-at c = search needs
-
 mul-bundle-at : tie.Need-mul-bundle-at
 mul-bundle-at c = rw (read (c .args .offset) (omega arith)) (double-fits (pc c) (c .args .offset) (omega arith) (c .pre))
 
@@ -47,6 +38,5 @@ returns : tie.Need-returns
 returns c = c .bundle-at .ensures ∙ ap bundleAt (handed (c .before))
 
 pub target-from-spec : {M : Type 1} → statement M
-target-from-spec =
-    tie.close
-    (tie.spec mul-pc add-pc cast-bundle-at mul-bundle-at add-bundle-at bundle-at-requires returns)
+target-from-spec = tie.close (tie.spec (λ c. search needs) (λ c. search needs) (λ c. search needs)
+    mul-bundle-at add-bundle-at bundle-at-requires returns)

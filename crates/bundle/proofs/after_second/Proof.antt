@@ -5,33 +5,6 @@ use borrow.Author.Needs.{needs}
 use Rattle.bundle.proofs.after_second.Statement.{statement}
 use Rattle.bundle.proofs.after_second.Tie as tie
 
-enum-told : tie.Need-enum-told
-enum-told c = search needs
-
-enum-told-2 : tie.Need-enum-told-2
-enum-told-2 c = search needs
-
-enum-known-second : tie.Need-enum-known-second
-enum-known-second c = search needs
-
-with-successor-requires : tie.Need-with-successor-requires
-with-successor-requires c κs = search needs
-
-enum-told-3 : tie.Need-enum-told-3
-enum-told-3 c = search needs
-
-with-successor-requires-2 : tie.Need-with-successor-requires-2
-with-successor-requires-2 c κs = search needs
-
-enum-known-second-2 : tie.Need-enum-known-second-2
-enum-known-second-2 c = search needs
-
-with-successor-requires-3 : tie.Need-with-successor-requires-3
-with-successor-requires-3 c κs = search needs
-
-with-successor-requires-4 : tie.Need-with-successor-requires-4
-with-successor-requires-4 c κs = search needs
-
 returns : tie.Need-returns
 returns c = λ bs e. rw (c .enum-told .given .1)
 
@@ -50,20 +23,6 @@ returns-5 c = λ bs e.
     (c .with-successor4 .ensures ∙ one-more _ (insert (c .before .before .before .before .before .args .next) bs) _ (c .before .with-successor3 .ensures ∙ one-more _ bs _ e))
 
 pub after-second-spec : {M : Type 1} → statement M
-after-second-spec =
-    tie.close
-    (tie.spec
-    enum-told
-    enum-told-2
-    enum-known-second
-    with-successor-requires
-    enum-told-3
-    with-successor-requires-2
-    enum-known-second-2
-    with-successor-requires-3
-    with-successor-requires-4
-    returns
-    returns-2
-    returns-3
-    returns-4
-    returns-5)
+after-second-spec = tie.close (tie.spec (λ c. search needs) (λ c. search needs) (λ c. search needs)
+    (λ c. search needs) (λ c. search needs) (λ c. search needs) (λ c. search needs)
+    (λ c. search needs) (λ c. search needs) returns returns-2 returns-3 returns-4 returns-5)

@@ -6,9 +6,6 @@ use borrow.Author.Needs.{needs}
 use Rattle.bundle.proofs.read_bundle.Statement.{statement}
 use Rattle.bundle.proofs.read_bundle.Tie as tie
 
-fits-requires : tie.Need-fits-requires
-fits-requires c κs = search needs
-
 returns : tie.Need-returns
 returns c = rw (sym (c .before .fits2 .ensures) ∙ not-true _ (c .if1 .taken))
 
@@ -24,4 +21,5 @@ returns-3 : tie.Need-returns-3
 returns-3 c = rw (sym (c .before .before .before .fits2 .ensures) ∙ not-false _ (c .before .before .if1 .left), lt-leb _ _ (c .before .if2 .left), c .reach-at .ensures)
 
 pub read-bundle-spec : {M : Type 1} → statement M
-read-bundle-spec = tie.close (tie.spec fits-requires returns returns-2 reach-at-requires returns-3)
+read-bundle-spec = tie.close (tie.spec (λ c. search needs) returns returns-2 reach-at-requires
+    returns-3)

@@ -59,18 +59,5 @@ returns-2 c =
     rw (sym (c .before .before .before .fits2 .ensures) ∙ not-false _ (c .before .before .if1 .left), scan-end (successorsOf page) (c .before .loop .k) (c .before .loop .bound) (countOf page) (omega arith) (c .before .loop .inv .1))
 
 pub count-spec : {M : Type 1} → statement M
-count-spec =
-    tie.close
-    (tie.spec
-    Inv-loop
-    μ-loop
-    fits-requires
-    returns
-    cast-k
-    loop-holds
-    sub-k
-    read-bundle-requires
-    bound-after-requires
-    loop-less
-    loop-again
-    returns-2)
+count-spec = tie.close (tie.spec Inv-loop μ-loop fits-requires returns cast-k loop-holds sub-k
+    read-bundle-requires bound-after-requires loop-less loop-again returns-2)

@@ -3,12 +3,9 @@ use borrow.Author.Needs.{needs}
 use Rattle.effects.proofs.base_rule.Statement.{statement}
 use Rattle.effects.proofs.base_rule.Tie as tie
 
-set-base-requires : tie.Need-set-base-requires
-set-base-requires c κs = search needs
-
 returns : tie.Need-returns
 unfolding noneDid
 returns c = rw (c .set-base .ensures)
 
 pub base-rule-spec : {M : Type 1} → statement M
-base-rule-spec = tie.close (tie.spec set-base-requires returns)
+base-rule-spec = tie.close (tie.spec (λ c. search needs) returns)

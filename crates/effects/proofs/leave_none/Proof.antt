@@ -3,15 +3,6 @@ use borrow.Author.Needs.{needs}
 use Rattle.effects.proofs.leave_none.Statement.{statement}
 use Rattle.effects.proofs.leave_none.Tie as tie
 
-enum-told : tie.Need-enum-told
-enum-told c = search needs
-
-set-base-requires : tie.Need-set-base-requires
-set-base-requires c κs = search needs
-
-enum-known-met : tie.Need-enum-known-met
-enum-known-met c = search needs
-
 returns : tie.Need-returns
 unfolding noneDid
 returns c = rw (c .before .enum-told .given .1, c .set-base .ensures)
@@ -21,4 +12,5 @@ unfolding noneDid
 returns-2 c = rw (c .before .met .given .1)
 
 pub leave-none-spec : {M : Type 1} → statement M
-leave-none-spec = tie.close (tie.spec enum-told set-base-requires enum-known-met returns returns-2)
+leave-none-spec = tie.close (tie.spec (λ c. search needs) (λ c. search needs) (λ c. search needs)
+    returns returns-2)

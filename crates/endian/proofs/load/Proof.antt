@@ -28,9 +28,6 @@ add-byte c = omega (arith, width-le (c .before .before .before .before .args .si
 byte-requires : tie.Need-byte-requires Inv-loop μ-loop
 byte-requires c κs = tt
 
-cast-b : tie.Need-cast-b Inv-loop μ-loop
-cast-b c = search needs
-
 -- what was read so far leaves room for a byte more
 short : (c : tie.After-byte Inv-loop μ-loop) → c .before .before .loop .x < 2 ^ 24
 short c =
@@ -64,19 +61,5 @@ returns c =
     ∙ rw (c .before .before .width .ensures)
 
 pub load-spec : {M : Type 1} → statement M
-load-spec =
-    tie.close
-    (tie.spec
-    Inv-loop
-    μ-loop
-    width-requires
-    loop-holds
-    sub-i
-    add-byte
-    byte-requires
-    cast-b
-    mul-x
-    add-x
-    loop-less
-    loop-again
-    returns)
+load-spec = tie.close (tie.spec Inv-loop μ-loop width-requires loop-holds sub-i add-byte
+    byte-requires (λ c. search needs) mul-x add-x loop-less loop-again returns)

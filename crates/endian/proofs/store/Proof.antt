@@ -24,9 +24,6 @@ loop-holds c = (omega arith, store-start (c .width .result) (c .before .before .
 add-set-byte : tie.Need-add-set-byte Inv-loop μ-loop
 add-set-byte c = omega (arith, width-le (c .before .before .before .before .before .args .size), c .before .before .before .width .ensures)
 
-cast-set-byte : tie.Need-cast-set-byte Inv-loop μ-loop
-cast-set-byte c = search needs
-
 set-byte-requires : tie.Need-set-byte-requires Inv-loop μ-loop
 set-byte-requires c κs = tt
 
@@ -59,18 +56,5 @@ returns c =
     ∙ rw (c .before .before .width .ensures)
 
 pub store-spec : {M : Type 1} → statement M
-store-spec =
-    tie.close
-    (tie.spec
-    Inv-loop
-    μ-loop
-    width-requires
-    loop-holds
-    add-set-byte
-    cast-set-byte
-    set-byte-requires
-    add-i
-    loop-less
-    loop-again
-    same-length
-    returns)
+store-spec = tie.close (tie.spec Inv-loop μ-loop width-requires loop-holds add-set-byte
+    (λ c. search needs) set-byte-requires add-i loop-less loop-again same-length returns)

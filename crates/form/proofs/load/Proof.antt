@@ -10,22 +10,10 @@ use Rattle.form.specs.Verdicts.{other-length, out-of-range, accepted, lo
 use Rattle.form.proofs.load.Statement.{statement}
 use Rattle.form.proofs.load.Tie as tie
 
-fresh-record-requires : tie.Need-fresh-record-requires
-fresh-record-requires c κs = search needs
-
 returns : tie.Need-returns
 returns c =
     let bytes = c .before .before .before .args .bytes .now in
     loaded bytes (Refused FormLength) (c .fresh-record .result) (other-length (length bytes) (valuesInRange (decode storedForm bytes)) (c .before .if1 .taken)) (c .fresh-record .ensures)
-
-values-in-requires : tie.Need-values-in-requires
-values-in-requires c κs = search needs
-
-in-range-requires : tie.Need-in-range-requires
-in-range-requires c κs = search needs
-
-fresh-record-requires-2 : tie.Need-fresh-record-requires-2
-fresh-record-requires-2 c κs = search needs
 
 returns-2 : tie.Need-returns-2
 returns-2 c =
@@ -33,9 +21,6 @@ returns-2 c =
     let t : valuesInRange (decode storedForm bytes) ≡ false =
     sym (ap valuesInRange (c .before .before .before .values-in .ensures)) ∙ sym (c .before .before .in-range .ensures) ∙ not-true _ (c .before .if2 .taken) in
     loaded bytes (Refused FormRange) (c .fresh-record2 .result) (out-of-range (length bytes) (valuesInRange (decode storedForm bytes)) (c .before .before .before .before .if1 .left) t) (c .fresh-record2 .ensures)
-
-record-in-requires : tie.Need-record-in-requires
-record-in-requires c κs = search needs
 
 returns-3 : tie.Need-returns-3
 returns-3 c =
@@ -45,14 +30,5 @@ returns-3 c =
     loaded bytes Accepted (c .record-in .result) (accepted (length bytes) (valuesInRange (decode storedForm bytes)) (c .before .before .before .before .if1 .left) t) (c .record-in .ensures)
 
 pub load-spec : {M : Type 1} → statement M
-load-spec =
-    tie.close
-    (tie.spec
-    fresh-record-requires
-    returns
-    values-in-requires
-    in-range-requires
-    fresh-record-requires-2
-    returns-2
-    record-in-requires
-    returns-3)
+load-spec = tie.close (tie.spec (λ c. search needs) returns (λ c. search needs) (λ c. search needs)
+    (λ c. search needs) returns-2 (λ c. search needs) returns-3)

@@ -16,12 +16,6 @@ returns c =
     let e = other-length (length (s .room .now)) (valuesInRange (valuesOf (s .r))) (c .if1 .taken) in
     (e, room-after (s .r) (s .room .now) (Refused FormLength) e)
 
-values-of-requires : tie.Need-values-of-requires
-values-of-requires c κs = search needs
-
-in-range-requires : tie.Need-in-range-requires
-in-range-requires c κs = search needs
-
 returns-2 : tie.Need-returns-2
 returns-2 c =
     let s = c .before .before .before .before .before .args in
@@ -29,12 +23,6 @@ returns-2 c =
     sym (ap valuesInRange (c .before .before .values-of .ensures)) ∙ sym (c .before .in-range .ensures) ∙ not-true _ (c .if2 .taken) in
     let e = out-of-range (length (s .room .now)) (valuesInRange (valuesOf (s .r))) (c .before .before .before .if1 .left) t in
     (e, room-after (s .r) (s .room .now) (Refused FormRange) e)
-
-write-requires : tie.Need-write-requires
-write-requires c κs = search needs
-
-same-length : tie.Need-same-length
-same-length c = search needs
 
 returns-3 : tie.Need-returns-3
 returns-3 c =
@@ -48,13 +36,5 @@ returns-3 c =
     (e, c .before .before .write .ensures .1 ∙ written ∙ room-after (s .r) room Accepted e)
 
 pub store-spec : {M : Type 1} → statement M
-store-spec =
-    tie.close
-    (tie.spec
-    returns
-    values-of-requires
-    in-range-requires
-    returns-2
-    write-requires
-    same-length
-    returns-3)
+store-spec = tie.close (tie.spec returns (λ c. search needs) (λ c. search needs) returns-2
+    (λ c. search needs) (λ c. search needs) returns-3)

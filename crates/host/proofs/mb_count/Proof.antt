@@ -2,14 +2,8 @@ use borrow.Author.Needs.{needs}
 use Rattle.host.proofs.mb_count.Statement.{statement}
 use Rattle.host.proofs.mb_count.Tie as tie
 
-count-requires : tie.Need-count-requires
-count-requires c κs = search needs
-
-code-of-requires : tie.Need-code-of-requires
-code-of-requires c κs = search needs
-
 returns : tie.Need-returns
 returns c = (rw (c .code-of .ensures, c .before .count .ensures), rw (c .before .count .ensures))
 
 pub mb-count-spec : {M : Type 1} → statement M
-mb-count-spec = tie.close (tie.spec count-requires code-of-requires returns)
+mb-count-spec = tie.close (tie.spec (λ c. search needs) (λ c. search needs) returns)

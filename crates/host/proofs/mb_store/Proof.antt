@@ -4,23 +4,8 @@ use borrow.Author.Needs.{needs}
 use Rattle.host.proofs.mb_store.Statement.{statement}
 use Rattle.host.proofs.mb_store.Tie as tie
 
-holds-record-requires : tie.Need-holds-record-requires
-holds-record-requires c κs = search needs
-
 returns : tie.Need-returns
 returns c = let none = sym (c .before .holds-record .ensures) ∙ not-true _ (c .if1 .taken) in (rw none, rw none)
-
-record-in-requires : tie.Need-record-in-requires
-record-in-requires c κs = search needs
-
-store-requires : tie.Need-store-requires
-store-requires c κs = search needs
-
-code-of-requires : tie.Need-code-of-requires
-code-of-requires c κs = search needs
-
-same-length : tie.Need-same-length
-same-length c = search needs
 
 returns-2 : tie.Need-returns-2
 returns-2 c =
@@ -30,13 +15,5 @@ returns-2 c =
     (rw (held, c .code-of .ensures, d .store .ensures .0, same), rw (held, d .store .ensures .1, same))
 
 pub mb-store-spec : {M : Type 1} → statement M
-mb-store-spec =
-    tie.close
-    (tie.spec
-    holds-record-requires
-    returns
-    record-in-requires
-    store-requires
-    code-of-requires
-    same-length
-    returns-2)
+mb-store-spec = tie.close (tie.spec (λ c. search needs) returns (λ c. search needs)
+    (λ c. search needs) (λ c. search needs) (λ c. search needs) returns-2)

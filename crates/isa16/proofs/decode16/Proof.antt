@@ -6,20 +6,9 @@ use borrow.Author.Needs.{needs}
 use Rattle.isa16.proofs.decode16.Statement.{statement}
 use Rattle.isa16.proofs.decode16.Tie as tie
 
-field-requires : tie.Need-field-requires
-field-requires c κs = search needs
-
-cast-t : tie.Need-cast-t
-cast-t c = search needs
-
-class-requires : tie.Need-class-requires
-class-requires c κs = search needs
-
 of-class-requires : tie.Need-of-class-requires
 of-class-requires c κs = c .class .ensures ∙ ap classOf (c .before .field .ensures ∙ top-byte (c .before .before .args .h) (omega arith))
 
-returns : tie.Need-returns
-returns c = search needs
-
 pub decode16-spec : {M : Type 1} → statement M
-decode16-spec = tie.close (tie.spec field-requires cast-t class-requires of-class-requires returns)
+decode16-spec = tie.close (tie.spec (λ c. search needs) (λ c. search needs) (λ c. search needs)
+    of-class-requires (λ c. search needs))

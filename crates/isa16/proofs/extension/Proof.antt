@@ -8,15 +8,6 @@ use borrow.Author.Needs.{needs}
 use Rattle.isa16.proofs.extension.Statement.{statement}
 use Rattle.isa16.proofs.extension.Tie as tie
 
-read-operands-requires : tie.Need-read-operands-requires
-read-operands-requires c κs = search needs
-
-cast-field : tie.Need-cast-field
-cast-field c = search needs
-
-field-requires : tie.Need-field-requires
-field-requires c κs = search needs
-
 returns : tie.Need-returns
 unfolding matches
 returns c = rw (c .before .before .read-operands .ensures) (by-ten 32 0x2C8 refl (c .before .before .before .args .h) (omega arith))
@@ -36,13 +27,5 @@ returns-4 c =
     rw (c .before .before .read-operands .ensures) (by-ten 35 0x2CB refl (c .before .before .before .args .h) (omega arith))
 
 pub extension-spec : {M : Type 1} → statement M
-extension-spec =
-    tie.close
-    (tie.spec
-    read-operands-requires
-    cast-field
-    field-requires
-    returns
-    returns-2
-    returns-3
-    returns-4)
+extension-spec = tie.close (tie.spec (λ c. search needs) (λ c. search needs) (λ c. search needs)
+    returns returns-2 returns-3 returns-4)

@@ -12,9 +12,6 @@ use borrow.Author.Needs.{needs}
 use Rattle.isa16.proofs.move_register.Statement.{statement}
 use Rattle.isa16.proofs.move_register.Tie as tie
 
-read-operands-requires : tie.Need-read-operands-requires
-read-operands-requires c κs = search needs
-
 returns : tie.Need-returns
 unfolding classOf matches
 returns c =
@@ -31,4 +28,4 @@ returns-2 c =
     by-low 0x46 12 refl (m-d MovReg) (refl, tt) false 64 192 refl h (c .before .before .before .pre) (omega arith) (omega arith)
 
 pub move-register-spec : {M : Type 1} → statement M
-move-register-spec = tie.close (tie.spec read-operands-requires returns returns-2)
+move-register-spec = tie.close (tie.spec (λ c. search needs) returns returns-2)

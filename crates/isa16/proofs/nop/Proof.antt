@@ -10,9 +10,6 @@ use borrow.Author.Needs.{needs}
 use Rattle.isa16.proofs.nop.Statement.{statement}
 use Rattle.isa16.proofs.nop.Tie as tie
 
-field-requires : tie.Need-field-requires
-field-requires c κs = search needs
-
 returns : tie.Need-returns
 unfolding classOf matches
 returns c = by-low 0xBF 18 refl (λ h. Data Nop) (refl, tt) true 0 1 refl (c .before .before .args .h) (c .before .before .pre) (omega arith) (omega arith)
@@ -22,4 +19,4 @@ unfolding classOf matches
 returns-2 c = by-low 0xBF 18 refl (λ h. Data Nop) (refl, tt) false 1 255 refl (c .before .before .args .h) (c .before .before .pre) (omega arith) (omega arith)
 
 pub nop-spec : {M : Type 1} → statement M
-nop-spec = tie.close (tie.spec field-requires returns returns-2)
+nop-spec = tie.close (tie.spec (λ c. search needs) returns returns-2)

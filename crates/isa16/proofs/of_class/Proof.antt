@@ -15,9 +15,6 @@ use borrow.Author.Needs.{needs}
 use Rattle.isa16.proofs.of_class.Statement.{statement}
 use Rattle.isa16.proofs.of_class.Tie as tie
 
-read-operands-requires : tie.Need-read-operands-requires
-read-operands-requires c κs = search needs
-
 register-operation-requires : tie.Need-register-operation-requires
 unfolding matches
 register-operation-requires c κs = let e : c .before .before .args .h / 2 ^ 8 / 4 ≡ 16 = eqb-true _ 16 (class-tops 11 (λ t. eqb (t / 4) 16) refl (lit< tt) (c .before .before .args .h / 2 ^ 8) (omega arith) (sym (c .match .keys12) ∙ c .before .before .pre)) in omega arith
@@ -71,12 +68,6 @@ returns-10 c = rw (c .before .read-operands .ensures) (by-class 9 (d-imm8 AddImm
 returns-11 : tie.Need-returns-11
 returns-11 c = rw (c .before .read-operands .ensures) (by-class 10 (d-imm8 SubImm) (refl, refl, tt) (lit< tt) (c .before .before .args .h) (sym (c .match .keys11) ∙ c .before .before .pre))
 
-returns-12 : tie.Need-returns-12
-returns-12 c = search needs
-
-returns-13 : tie.Need-returns-13
-returns-13 c = search needs
-
 returns-14 : tie.Need-returns-14
 returns-14 c = rw (c .before .read-operands .ensures) (by-class 13 (t-imm8 LdrLit) (refl, refl, tt) (lit< tt) (c .before .before .args .h) (sym (c .match .keys14) ∙ c .before .before .pre))
 
@@ -88,12 +79,6 @@ returns-16 c = rw (c .before .read-operands .ensures) (by-class 15 (t-imm8 LdrSp
 
 returns-17 : tie.Need-returns-17
 returns-17 c = rw (c .before .read-operands .ensures) (by-class 16 (d-imm8 AddSp) (refl, refl, tt) (lit< tt) (c .before .before .args .h) (sym (c .match .keys17) ∙ c .before .before .pre))
-
-returns-18 : tie.Need-returns-18
-returns-18 c = search needs
-
-returns-19 : tie.Need-returns-19
-returns-19 c = search needs
 
 returns-20 : tie.Need-returns-20
 returns-20 c = rw (c .before .read-operands .ensures) (by-class 19 (λ h. Cbz (imm6Of h) (bits h 2 0)) (refl, refl, tt) (lit< tt) (c .before .before .args .h) (sym (c .match .keys20) ∙ c .before .before .pre))
@@ -107,44 +92,13 @@ returns-22 c = rw (c .before .read-operands .ensures) (by-class 21 (λ h. Bcc (b
 returns-23 : tie.Need-returns-23
 returns-23 c = rw (c .before .read-operands .ensures) (by-class 22 (λ h. B (bits h 10 0)) (refl, refl, tt) (lit< tt) (c .before .before .args .h) (sym (c .match .keys23) ∙ c .before .before .pre))
 
-returns-24 : tie.Need-returns-24
-returns-24 c = search needs
-
 returns-25 : tie.Need-returns-25
 returns-25 c = no-class (c .before .before .args .h) (c .before .before .args .k) (c .before .before .pre) (past 24 (c .match .rest))
 
 pub of-class-spec : {M : Type 1} → statement M
-of-class-spec =
-    tie.close
-    (tie.spec
-    read-operands-requires
-    register-operation-requires
-    move-register-requires
-    extension-requires
-    nop-requires
-    service-requires
-    returns
-    returns-2
-    returns-3
-    returns-4
-    returns-5
-    returns-6
-    returns-7
-    returns-8
-    returns-9
-    returns-10
-    returns-11
-    returns-12
-    returns-13
-    returns-14
-    returns-15
-    returns-16
-    returns-17
-    returns-18
-    returns-19
-    returns-20
-    returns-21
-    returns-22
-    returns-23
-    returns-24
-    returns-25)
+of-class-spec = tie.close (tie.spec (λ c. search needs) register-operation-requires
+    move-register-requires extension-requires nop-requires service-requires returns returns-2
+    returns-3 returns-4 returns-5 returns-6 returns-7 returns-8 returns-9 returns-10 returns-11
+    (λ c. search needs) (λ c. search needs) returns-14 returns-15 returns-16 returns-17
+    (λ c. search needs) (λ c. search needs) returns-20 returns-21 returns-22 returns-23
+    (λ c. search needs) returns-25)

@@ -8,15 +8,6 @@ use borrow.Author.Needs.{needs}
 use Rattle.isa16.proofs.register_operation.Statement.{statement}
 use Rattle.isa16.proofs.register_operation.Tie as tie
 
-read-operands-requires : tie.Need-read-operands-requires
-read-operands-requires c κs = search needs
-
-cast-field : tie.Need-cast-field
-cast-field c = search needs
-
-field-requires : tie.Need-field-requires
-field-requires c κs = search needs
-
 returns : tie.Need-returns
 unfolding matches
 returns c = rw (c .before .before .read-operands .ensures) (by-ten 11 256 refl (c .before .before .before .args .h) (omega arith))
@@ -84,25 +75,7 @@ returns-16 c =
     rw (c .before .before .read-operands .ensures) (by-ten 26 271 refl (c .before .before .before .args .h) (omega arith))
 
 pub register-operation-spec : {M : Type 1} → statement M
-register-operation-spec =
-    tie.close
-    (tie.spec
-    read-operands-requires
-    cast-field
-    field-requires
-    returns
-    returns-2
-    returns-3
-    returns-4
-    returns-5
-    returns-6
-    returns-7
-    returns-8
-    returns-9
-    returns-10
-    returns-11
-    returns-12
-    returns-13
-    returns-14
-    returns-15
+register-operation-spec = tie.close (tie.spec (λ c. search needs) (λ c. search needs)
+    (λ c. search needs) returns returns-2 returns-3 returns-4 returns-5 returns-6 returns-7
+    returns-8 returns-9 returns-10 returns-11 returns-12 returns-13 returns-14 returns-15
     returns-16)

@@ -13,9 +13,6 @@ use borrow.Author.Needs.{needs}
 use Rattle.isa16.proofs.service.Statement.{statement}
 use Rattle.isa16.proofs.service.Tie as tie
 
-read-operands-requires : tie.Need-read-operands-requires
-read-operands-requires c κs = search needs
-
 -- each row stands for the service
 abbrev alike : Means (λ h. Service (bits h 7 0)) (lineAt lines16 23)
 alike = (refl, (refl, (refl, (refl, (refl, (refl, (refl, tt)))))))
@@ -42,4 +39,4 @@ returns-3 c =
     rw low (by-low 0xDF 23 refl (λ h. Service (bits h 7 0)) alike true 0xF0 16 refl h (c .before .before .before .pre) (omega arith) (omega arith))
 
 pub service-spec : {M : Type 1} → statement M
-service-spec = tie.close (tie.spec read-operands-requires returns returns-2 returns-3)
+service-spec = tie.close (tie.spec (λ c. search needs) returns returns-2 returns-3)

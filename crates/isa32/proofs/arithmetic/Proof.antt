@@ -6,27 +6,6 @@ use borrow.Author.Needs.{needs}
 use Rattle.isa32.proofs.arithmetic.Statement.{statement}
 use Rattle.isa32.proofs.arithmetic.Tie as tie
 
-field-requires : tie.Need-field-requires
-field-requires c κs = search needs
-
-cast-n : tie.Need-cast-n
-cast-n c = search needs
-
-field-requires-2 : tie.Need-field-requires-2
-field-requires-2 c κs = search needs
-
-cast-d : tie.Need-cast-d
-cast-d c = search needs
-
-field-requires-3 : tie.Need-field-requires-3
-field-requires-3 c κs = search needs
-
-cast-m : tie.Need-cast-m
-cast-m c = search needs
-
-imm16-requires : tie.Need-imm16-requires
-imm16-requires c κs = search needs
-
 returns : tie.Need-returns
 returns c = rw (c .before .imm16 .ensures, c .before .before .before .field2 .ensures) (by-mask arithmetic32 refl 0 (c .before .before .before .before .before .args .w) refl (c .if1 .taken))
 
@@ -51,18 +30,6 @@ returns-5 c =
     )
 
 pub arithmetic-spec : {M : Type 1} → statement M
-arithmetic-spec =
-    tie.close
-    (tie.spec
-    field-requires
-    cast-n
-    field-requires-2
-    cast-d
-    field-requires-3
-    cast-m
-    imm16-requires
-    returns
-    returns-2
-    returns-3
-    returns-4
-    returns-5)
+arithmetic-spec = tie.close (tie.spec (λ c. search needs) (λ c. search needs) (λ c. search needs)
+    (λ c. search needs) (λ c. search needs) (λ c. search needs) (λ c. search needs) returns
+    returns-2 returns-3 returns-4 returns-5)

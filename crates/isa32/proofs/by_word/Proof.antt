@@ -6,24 +6,6 @@ use borrow.Author.Needs.{needs}
 use Rattle.isa32.proofs.by_word.Statement.{statement}
 use Rattle.isa32.proofs.by_word.Tie as tie
 
-field-requires : tie.Need-field-requires
-field-requires c κs = search needs
-
-cast-n : tie.Need-cast-n
-cast-n c = search needs
-
-field-requires-2 : tie.Need-field-requires-2
-field-requires-2 c κs = search needs
-
-cast-t : tie.Need-cast-t
-cast-t c = search needs
-
-field-requires-3 : tie.Need-field-requires-3
-field-requires-3 c κs = search needs
-
-cast-imm12 : tie.Need-cast-imm12
-cast-imm12 c = search needs
-
 returns : tie.Need-returns
 returns c = rw (c .before .before .field2 .ensures, c .before .field3 .ensures) (by-mask listed32 apart32 0 (c .before .before .before .before .args .w) refl (c .if1 .taken))
 
@@ -48,9 +30,6 @@ returns-7 c = rw (c .before .before .before .before .before .before .before .bef
 returns-8 : tie.Need-returns-8
 returns-8 c = rw (c .before .before .before .before .before .before .before .before .before .before .field .ensures, c .before .before .before .before .before .before .before .before .before .field2 .ensures, c .before .before .before .before .before .before .before .before .field3 .ensures) (by-mask listed32 apart32 7 (c .before .before .before .before .before .before .before .before .before .before .before .args .w) refl (c .if8 .taken))
 
-arithmetic-requires : tie.Need-arithmetic-requires
-arithmetic-requires c κs = search needs
-
 returns-9 : tie.Need-returns-9
 unfolding decodeBy
 returns-9 c =
@@ -68,22 +47,6 @@ returns-9 c =
     )
 
 pub by-word-spec : {M : Type 1} → statement M
-by-word-spec =
-    tie.close
-    (tie.spec
-    field-requires
-    cast-n
-    field-requires-2
-    cast-t
-    field-requires-3
-    cast-imm12
-    returns
-    returns-2
-    returns-3
-    returns-4
-    returns-5
-    returns-6
-    returns-7
-    returns-8
-    arithmetic-requires
-    returns-9)
+by-word-spec = tie.close (tie.spec (λ c. search needs) (λ c. search needs) (λ c. search needs)
+    (λ c. search needs) (λ c. search needs) (λ c. search needs) returns returns-2 returns-3
+    returns-4 returns-5 returns-6 returns-7 returns-8 (λ c. search needs) returns-9)

@@ -6,14 +6,8 @@ use borrow.Author.Needs.{needs}
 use Rattle.isa32.proofs.decode32.Statement.{statement}
 use Rattle.isa32.proofs.decode32.Tie as tie
 
-joined-requires : tie.Need-joined-requires
-joined-requires c κs = search needs
-
-by-word-requires : tie.Need-by-word-requires
-by-word-requires c κs = search needs
-
 returns : tie.Need-returns
 returns c = c .by-word .ensures ∙ ap (decodeBy listed32) (c .before .joined .ensures ∙ word (c .before .before .args .first) (c .before .before .args .second) (omega arith) (omega arith))
 
 pub decode32-spec : {M : Type 1} → statement M
-decode32-spec = tie.close (tie.spec joined-requires by-word-requires returns)
+decode32-spec = tie.close (tie.spec (λ c. search needs) (λ c. search needs) returns)

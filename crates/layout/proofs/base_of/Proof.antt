@@ -7,9 +7,6 @@ use Rattle.state.specs.declared.Base.the-variants.{Nothing, Ram, External}
 use Rattle.layout.proofs.base_of.Statement.{statement}
 use Rattle.layout.proofs.base_of.Tie as tie
 
-returns : tie.Need-returns
-returns c = search needs
-
 returns-2 : tie.Need-returns-2
 returns-2 c = rw (c .match .keys2)
 
@@ -17,4 +14,4 @@ returns-3 : tie.Need-returns-3
 returns-3 c = sym (List·getD-eq-default (Nothing ∷ Ram (c .before .args .offset) ∷ []) (External (c .before .args .offset)) (past 2 (c .match .rest)))
 
 pub base-of-spec : {M : Type 1} → statement M
-base-of-spec = tie.close (tie.spec returns returns-2 returns-3)
+base-of-spec = tie.close (tie.spec (λ c. search needs) returns-2 returns-3)

@@ -11,14 +11,8 @@ use Rattle.layout.proofs.base_stands.Tie as tie
 returns : tie.Need-returns
 returns c = rw (c .match .keys1)
 
-returns-2 : tie.Need-returns-2
-returns-2 c = search needs
-
-returns-3 : tie.Need-returns-3
-returns-3 c = search needs
-
 returns-4 : tie.Need-returns-4
 returns-4 c = sym (List·getD-eq-default (eqb (c .before .args .offset) 0 ∷ true ∷ true ∷ []) false (past 3 (c .match .rest)))
 
 pub base-stands-spec : {M : Type 1} → statement M
-base-stands-spec = tie.close (tie.spec returns returns-2 returns-3 returns-4)
+base-stands-spec = tie.close (tie.spec returns (λ c. search needs) (λ c. search needs) returns-4)

@@ -4,14 +4,8 @@ use Rattle.layout.specs.Laws.{bit-small}
 use Rattle.layout.proofs.flags_number.Statement.{statement}
 use Rattle.layout.proofs.flags_number.Tie as tie
 
-bit-of-requires : tie.Need-bit-of-requires
-bit-of-requires c κs = search needs
-
 mul-result : tie.Need-mul-result
 mul-result c = omega (arith, bit-small (c .before .args .f .n))
-
-bit-of-requires-2 : tie.Need-bit-of-requires-2
-bit-of-requires-2 c κs = search needs
 
 mul-result-2 : tie.Need-mul-result-2
 mul-result-2 c = omega (arith, bit-small (c .before .before .args .f .z))
@@ -19,36 +13,16 @@ mul-result-2 c = omega (arith, bit-small (c .before .before .args .f .z))
 add-result : tie.Need-add-result
 add-result c = omega (arith, bit-small (c .before .before .args .f .n), bit-small (c .before .before .args .f .z))
 
-bit-of-requires-3 : tie.Need-bit-of-requires-3
-bit-of-requires-3 c κs = search needs
-
 mul-result-3 : tie.Need-mul-result-3
 mul-result-3 c = omega (arith, bit-small (c .before .before .before .args .f .c))
 
 add-result-2 : tie.Need-add-result-2
 add-result-2 c = omega (arith, bit-small (c .before .before .before .args .f .n), bit-small (c .before .before .before .args .f .z), bit-small (c .before .before .before .args .f .c))
 
-bit-of-requires-4 : tie.Need-bit-of-requires-4
-bit-of-requires-4 c κs = search needs
-
 add-result-3 : tie.Need-add-result-3
 add-result-3 c = omega (arith, bit-small (c .before .before .before .before .args .f .n), bit-small (c .before .before .before .before .args .f .z), bit-small (c .before .before .before .before .args .f .c), bit-small (c .before .before .before .before .args .f .v))
 
-returns : tie.Need-returns
-returns c = search needs
-
 pub flags-number-spec : {M : Type 1} → statement M
-flags-number-spec =
-    tie.close
-    (tie.spec
-    bit-of-requires
-    mul-result
-    bit-of-requires-2
-    mul-result-2
-    add-result
-    bit-of-requires-3
-    mul-result-3
-    add-result-2
-    bit-of-requires-4
-    add-result-3
-    returns)
+flags-number-spec = tie.close (tie.spec (λ c. search needs) mul-result (λ c. search needs)
+    mul-result-2 add-result (λ c. search needs) mul-result-3 add-result-2 (λ c. search needs)
+    add-result-3 (λ c. search needs))

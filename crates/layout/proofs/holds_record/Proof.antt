@@ -8,14 +8,8 @@ use Rattle.layout.proofs.holds_record.Tie as tie
 returns : tie.Need-returns
 returns c = rw (ne-eqb _ _ (c .if1 .taken))
 
-values-in-requires : tie.Need-values-in-requires
-values-in-requires c κs = search needs
-
-is-record-requires : tie.Need-is-record-requires
-is-record-requires c κs = search needs
-
 returns-2 : tie.Need-returns-2
 returns-2 c = rw (eq-eqb _ _ (c .before .before .if1 .left)) (c .is-record .ensures ∙ ap isRecord (c .before .values-in .ensures))
 
 pub holds-record-spec : {M : Type 1} → statement M
-holds-record-spec = tie.close (tie.spec returns values-in-requires is-record-requires returns-2)
+holds-record-spec = tie.close (tie.spec returns (λ c. search needs) (λ c. search needs) returns-2)

@@ -2,11 +2,8 @@ use borrow.Author.Needs.{needs}
 use Rattle.layout.proofs.is_set.Statement.{statement}
 use Rattle.layout.proofs.is_set.Tie as tie
 
-field-requires : tie.Need-field-requires
-field-requires c κs = search needs
-
 returns : tie.Need-returns
 returns c = rw (c .field .ensures)
 
 pub is-set-spec : {M : Type 1} → statement M
-is-set-spec = tie.close (tie.spec field-requires returns)
+is-set-spec = tie.close (tie.spec (λ c. search needs) returns)

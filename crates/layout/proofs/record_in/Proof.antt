@@ -6,9 +6,6 @@ use Rattle.layout.specs.Laws.{decode-below}
 use Rattle.layout.proofs.record_in.Statement.{statement}
 use Rattle.layout.proofs.record_in.Tie as tie
 
-values-in-requires : tie.Need-values-in-requires
-values-in-requires c κs = search needs
-
 record-of-requires : tie.Need-record-of-requires
 record-of-requires c κs = rw (c .values-in .ensures) (decode-below storedForm 11 (c .before .before .args .bytes .now) (lit< tt) (λ k. c .before .shared-slice-known .given k .fits))
 
@@ -16,4 +13,4 @@ returns : tie.Need-returns
 returns c = c .record-of .ensures ∙ ap recordOf (c .before .values-in .ensures)
 
 pub record-in-spec : {M : Type 1} → statement M
-record-in-spec = tie.close (tie.spec values-in-requires record-of-requires returns)
+record-in-spec = tie.close (tie.spec (λ c. search needs) record-of-requires returns)

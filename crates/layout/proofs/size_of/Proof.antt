@@ -30,11 +30,8 @@ four i h none =
 returns : tie.Need-returns
 returns c = ⊎-elim (λ (e : c .before .args .i ≡ 9). rw e) (λ (e : c .before .args .i ≡ 12). rw e) (c .match .keys1)
 
-returns-2 : tie.Need-returns-2
-returns-2 c = search needs
-
 returns-3 : tie.Need-returns-3
 returns-3 c = four (c .before .args .i) (c .before .pre) (c .match .rest)
 
 pub size-of-spec : {M : Type 1} → statement M
-size-of-spec = tie.close (tie.spec returns returns-2 returns-3)
+size-of-spec = tie.close (tie.spec returns (λ c. search needs) returns-3)

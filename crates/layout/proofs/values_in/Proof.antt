@@ -65,20 +65,5 @@ returns c =
     all-read storedForm (l .values) (c .before .before .before .args .bytes .now) (l .i) (omega arith) (omega arith) (l .inv .3)
 
 pub values-in-spec : {M : Type 1} → statement M
-values-in-spec =
-    tie.close
-    (tie.spec
-    Inv-loop
-    μ-loop
-    loop-holds
-    size-of-requires
-    load-requires
-    mul-values
-    array-write-values
-    width-requires
-    cast-at
-    add-at
-    add-i
-    loop-less
-    loop-again
-    returns)
+values-in-spec = tie.close (tie.spec Inv-loop μ-loop loop-holds size-of-requires load-requires
+    mul-values array-write-values width-requires cast-at add-at add-i loop-less loop-again returns)

@@ -69,21 +69,6 @@ returns c =
     all-written storedForm (c .before .before .before .args .t1) (l .room) (l .i) (l .at) (omega arith) (l .inv .1) (omega arith) (l .inv .2)
 
 pub write-values-spec : {M : Type 1} → statement M
-write-values-spec =
-    tie.close
-    (tie.spec
-    Inv-loop
-    μ-loop
-    loop-holds
-    size-of-requires
-    mul-x
-    array-read-x
-    store-requires
-    width-requires
-    cast-at
-    add-at
-    add-i
-    loop-less
-    loop-again
-    same-length
+write-values-spec = tie.close (tie.spec Inv-loop μ-loop loop-holds size-of-requires mul-x
+    array-read-x store-requires width-requires cast-at add-at add-i loop-less loop-again same-length
     returns)

@@ -35,35 +35,11 @@ short c = line-length _ _ _ _ _
 mul-halfword : tie.Need-mul-halfword
 mul-halfword c = omega (arith, fitting (c .before .before .args .page .now) (c .before .before .pre .0 .0))
 
-halfword-requires : tie.Need-halfword-requires
-halfword-requires c κs = search needs
-
 mul-halfword-2 : tie.Need-mul-halfword-2
 mul-halfword-2 c = omega (arith, fitting (c .before .before .before .args .page .now) (c .before .before .before .pre .0 .0))
 
 add-halfword : tie.Need-add-halfword
 add-halfword c = omega (arith, fitting (c .before .before .before .args .page .now) (c .before .before .before .pre .0 .0))
-
-halfword-requires-2 : tie.Need-halfword-requires-2
-halfword-requires-2 c κs = search needs
-
-read-bundle-requires : tie.Need-read-bundle-requires
-read-bundle-requires c κs = search needs
-
-sub-bundle-line : tie.Need-sub-bundle-line
-sub-bundle-line c = search needs
-
-part-bundle-line-start : tie.Need-part-bundle-line-start
-part-bundle-line-start c = search needs
-
-part-bundle-line-end : tie.Need-part-bundle-line-end
-part-bundle-line-end c = search needs
-
-bundle-line-requires : tie.Need-bundle-line-requires
-bundle-line-requires c κs = search needs
-
-bytes-written-requires : tie.Need-bytes-written-requires
-bytes-written-requires c κs = search needs
 
 add-result : tie.Need-add-result
 add-result c =
@@ -72,29 +48,13 @@ add-result c =
     let text = begin .args .text .now in
     omega (arith, begin, end-behind _ text _ 36 (short called) (begin .pre .1 .1) (put called) (c .bytes-written .ensures))
 
-same-length : tie.Need-same-length
-same-length c = search needs
-
 returns : tie.Need-returns
 returns c =
     let called = c .before .before .before in
     extended _ _ _ 36 (short called) (start called .pre .1 .1) _ (put called) (c .bytes-written .ensures)
 
 pub put-bundle-spec : {M : Type 1} → statement M
-put-bundle-spec =
-    tie.close
-    (tie.spec
-    mul-halfword
-    halfword-requires
-    mul-halfword-2
-    add-halfword
-    halfword-requires-2
-    read-bundle-requires
-    sub-bundle-line
-    part-bundle-line-start
-    part-bundle-line-end
-    bundle-line-requires
-    bytes-written-requires
-    add-result
-    same-length
+put-bundle-spec = tie.close (tie.spec mul-halfword (λ c. search needs) mul-halfword-2 add-halfword
+    (λ c. search needs) (λ c. search needs) (λ c. search needs) (λ c. search needs)
+    (λ c. search needs) (λ c. search needs) (λ c. search needs) add-result (λ c. search needs)
     returns)

@@ -6,15 +6,6 @@ use Rattle.listing.proofs.Lengths.{head-length}
 use Rattle.listing.proofs.put_head.Statement.{statement}
 use Rattle.listing.proofs.put_head.Tie as tie
 
-head-line-requires : tie.Need-head-line-requires
-head-line-requires c κs = search needs
-
-bytes-written-requires : tie.Need-bytes-written-requires
-bytes-written-requires c κs = search needs
-
-same-length : tie.Need-same-length
-same-length c = search needs
-
 returns : tie.Need-returns
 returns c =
     let args = c .before .before .before .before .before .before .args in
@@ -22,4 +13,5 @@ returns c =
     (c .before .before .before .head-line .ensures) (c .bytes-written .ensures)
 
 pub put-head-spec : {M : Type 1} → statement M
-put-head-spec = tie.close (tie.spec head-line-requires bytes-written-requires same-length returns)
+put-head-spec = tie.close (tie.spec (λ c. search needs) (λ c. search needs) (λ c. search needs)
+    returns)

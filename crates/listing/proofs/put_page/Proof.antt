@@ -73,17 +73,5 @@ returns c =
     (omega (arith, fitting (start .args .page .now) (start .pre .0 .0)), rw e at (c .before .loop .inv .0))
 
 pub put-page-spec : {M : Type 1} → statement M
-put-page-spec =
-    tie.close
-    (tie.spec
-    Inv-loop
-    μ-loop
-    cast-bundles
-    put-head-requires
-    loop-holds
-    put-bundle-requires
-    add-k
-    loop-less
-    loop-again
-    same-length
-    returns)
+put-page-spec = tie.close (tie.spec Inv-loop μ-loop cast-bundles put-head-requires loop-holds
+    put-bundle-requires add-k loop-less loop-again same-length returns)

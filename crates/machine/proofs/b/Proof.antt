@@ -3,9 +3,6 @@ use borrow.Author.Needs.{needs}
 use Rattle.machine.proofs.b.Statement.{statement}
 use Rattle.machine.proofs.b.Tie as tie
 
-branch-target-requires : tie.Need-branch-target-requires
-branch-target-requires c κs = search needs
-
 branch-to-requires : tie.Need-branch-to-requires
 branch-to-requires c κs = rw (c .branch-target .ensures) (near-b (c .before .args .r .place) (c .before .args .imm11) (c .before .pre))
 
@@ -13,4 +10,4 @@ returns : tie.Need-returns
 returns c = λ m. rw (← c .before .branch-target .ensures) (c .branch-to .ensures m)
 
 pub b-spec : {M : Type 1} → statement M
-b-spec = tie.close (tie.spec branch-target-requires branch-to-requires returns)
+b-spec = tie.close (tie.spec (λ c. search needs) branch-to-requires returns)

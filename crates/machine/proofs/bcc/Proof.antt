@@ -5,15 +5,6 @@ use borrow.Author.Needs.{needs}
 use Rattle.machine.proofs.bcc.Statement.{statement}
 use Rattle.machine.proofs.bcc.Tie as tie
 
-condition-holds-requires : tie.Need-condition-holds-requires
-condition-holds-requires c κs = search needs
-
-next-place-requires : tie.Need-next-place-requires
-next-place-requires c κs = search needs
-
-conditional-target-requires : tie.Need-conditional-target-requires
-conditional-target-requires c κs = search needs
-
 branch-if-requires : tie.Need-branch-if-requires
 branch-if-requires c κs = rw (c .conditional-target .ensures) (near-conditional (c .before .before .before .before .before .args .r .place) (c .before .before .before .before .before .args .imm8) (c .before .before .before .before .before .pre) (omega arith))
 
@@ -21,11 +12,5 @@ returns : tie.Need-returns
 returns c = λ m. branching _ m _ _ _ _ _ _ _ (c .before .before .before .condition-holds .ensures) (c .before .before .next-place .ensures) (c .before .conditional-target .ensures) (c .branch-if .ensures m)
 
 pub bcc-spec : {M : Type 1} → statement M
-bcc-spec =
-    tie.close
-    (tie.spec
-    condition-holds-requires
-    next-place-requires
-    conditional-target-requires
-    branch-if-requires
-    returns)
+bcc-spec = tie.close (tie.spec (λ c. search needs) (λ c. search needs) (λ c. search needs)
+    branch-if-requires returns)

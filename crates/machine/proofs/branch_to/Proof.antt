@@ -5,23 +5,11 @@ use borrow.Author.Needs.{needs}
 use Rattle.machine.proofs.branch_to.Statement.{statement}
 use Rattle.machine.proofs.branch_to.Tie as tie
 
-enum-told : tie.Need-enum-told
-enum-told c = search needs
-
-marked-requires : tie.Need-marked-requires
-marked-requires c κs = search needs
-
-enum-known-t : tie.Need-enum-known-t
-enum-known-t c = search needs
-
 mul-set-place : tie.Need-mul-set-place
 mul-set-place c = let h = rw (c .before .t .given .1) at (c .before .before .before .pre) in omega (arith, h)
 
 cast-set-place : tie.Need-cast-set-place
 cast-set-place c = let h = rw (c .before .t .given .1) at (c .before .before .before .pre) in omega (arith, h)
-
-set-place-requires : tie.Need-set-place-requires
-set-place-requires c κs = search needs
 
 returns : tie.Need-returns
 unfolding branchTo
@@ -32,14 +20,5 @@ unfolding branchTo executedOf
 returns-2 c = λ m. rw (c .before .before .t .given .1, c .set-place .ensures)
 
 pub branch-to-spec : {M : Type 1} → statement M
-branch-to-spec =
-    tie.close
-    (tie.spec
-    enum-told
-    marked-requires
-    enum-known-t
-    mul-set-place
-    cast-set-place
-    set-place-requires
-    returns
-    returns-2)
+branch-to-spec = tie.close (tie.spec (λ c. search needs) (λ c. search needs) (λ c. search needs)
+    mul-set-place cast-set-place (λ c. search needs) returns returns-2)

@@ -8,15 +8,6 @@ use borrow.Author.Needs.{needs}
 use Rattle.machine.proofs.cbz.Statement.{statement}
 use Rattle.machine.proofs.cbz.Tie as tie
 
-register-of-requires : tie.Need-register-of-requires
-register-of-requires c κs = search needs
-
-next-place-requires : tie.Need-next-place-requires
-next-place-requires c κs = search needs
-
-compare-target-requires : tie.Need-compare-target-requires
-compare-target-requires c κs = search needs
-
 branch-if-requires : tie.Need-branch-if-requires
 branch-if-requires c κs = rw (c .compare-target .ensures) (near-compare (c .before .before .before .before .args .r .place) (c .before .before .before .before .args .imm6) (c .before .before .before .before .pre) (omega arith))
 
@@ -24,11 +15,5 @@ returns : tie.Need-returns
 returns c = λ m. branching _ m _ _ _ _ _ _ _ (ap (λ (v : ℕ). eqb v 0) (c .before .before .before .register-of .ensures)) (c .before .before .next-place .ensures) (c .before .compare-target .ensures) (c .branch-if .ensures m)
 
 pub cbz-spec : {M : Type 1} → statement M
-cbz-spec =
-    tie.close
-    (tie.spec
-    register-of-requires
-    next-place-requires
-    compare-target-requires
-    branch-if-requires
-    returns)
+cbz-spec = tie.close (tie.spec (λ c. search needs) (λ c. search needs) (λ c. search needs)
+    branch-if-requires returns)

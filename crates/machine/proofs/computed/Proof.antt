@@ -2,11 +2,8 @@ use borrow.Author.Needs.{needs}
 use Rattle.machine.proofs.computed.Statement.{statement}
 use Rattle.machine.proofs.computed.Tie as tie
 
-compute-requires : tie.Need-compute-requires
-compute-requires c κs = search needs
-
 returns : tie.Need-returns
 returns c = rw (c .compute .ensures)
 
 pub computed-spec : {M : Type 1} → statement M
-computed-spec = tie.close (tie.spec compute-requires returns)
+computed-spec = tie.close (tie.spec (λ c. search needs) returns)

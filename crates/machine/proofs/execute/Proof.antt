@@ -7,21 +7,6 @@ use borrow.Author.Needs.{needs}
 use Rattle.machine.proofs.execute.Statement.{statement}
 use Rattle.machine.proofs.execute.Tie as tie
 
-cast-if1 : tie.Need-cast-if1
-cast-if1 c = search needs
-
-instruction-at-requires : tie.Need-instruction-at-requires
-instruction-at-requires c κs = search needs
-
-perform-requires : tie.Need-perform-requires
-perform-requires c κs = search needs
-
-marked-requires : tie.Need-marked-requires
-marked-requires c κs = search needs
-
-same-length : tie.Need-same-length
-same-length c = search needs
-
 returns : tie.Need-returns
 unfolding instructionOf
 returns c = rw (← c .before .before .before .before .instruction-at .ensures) (c .before .before .perform .ensures)
@@ -31,6 +16,5 @@ unfolding instructionOf instructionAt effectOf ramOf
 returns-2 c = rw (le-ltb _ _ (c .before .if1 .left)) (c .marked .ensures, refl)
 
 pub execute-spec : {M : Type 1} → statement M
-execute-spec =
-    tie.close
-    (tie.spec cast-if1 instruction-at-requires perform-requires marked-requires same-length returns returns-2)
+execute-spec = tie.close (tie.spec (λ c. search needs) (λ c. search needs) (λ c. search needs)
+    (λ c. search needs) (λ c. search needs) returns returns-2)

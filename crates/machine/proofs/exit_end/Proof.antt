@@ -9,9 +9,6 @@ returns : tie.Need-returns
 unfolding exitOf exitEnd
 returns c = rw (lt-leb _ _ (c .if1 .taken))
 
-word-requires : tie.Need-word-requires
-word-requires c κs = search needs
-
 returns-2 : tie.Need-returns-2
 unfolding exitOf exitEnd
 returns-2 c = rw (le-leb _ _ (c .before .before .if1 .left), le-leb _ _ (c .before .if2 .taken), c .word .ensures)
@@ -21,4 +18,4 @@ unfolding exitOf exitEnd
 returns-3 c = rw (le-leb _ _ (c .before .if1 .left), lt-leb _ _ (c .if2 .left))
 
 pub exit-end-spec : {M : Type 1} → statement M
-exit-end-spec = tie.close (tie.spec returns word-requires returns-2 returns-3)
+exit-end-spec = tie.close (tie.spec returns (λ c. search needs) returns-2 returns-3)

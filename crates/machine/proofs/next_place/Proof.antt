@@ -4,14 +4,8 @@ use borrow.Author.Needs.{needs}
 use Rattle.machine.proofs.next_place.Statement.{statement}
 use Rattle.machine.proofs.next_place.Tie as tie
 
-next-place-requires : tie.Need-next-place-requires
-next-place-requires c κs = search needs
-
 cast-result : tie.Need-cast-result
 cast-result c = rw (c .next-place .ensures) (omega (arith, behind-near (c .before .before .args .page .now) (c .before .before .args .place)))
 
-returns : tie.Need-returns
-returns c = search needs
-
 pub next-place-spec : {M : Type 1} → statement M
-next-place-spec = tie.close (tie.spec next-place-requires cast-result returns)
+next-place-spec = tie.close (tie.spec (λ c. search needs) cast-result (λ c. search needs))

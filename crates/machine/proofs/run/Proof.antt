@@ -5,41 +5,17 @@ use borrow.Author.Needs.{needs}
 use Rattle.machine.proofs.run.Statement.{statement}
 use Rattle.machine.proofs.run.Tie as tie
 
-verdict-of-requires : tie.Need-verdict-of-requires
-verdict-of-requires c κs = search needs
-
-enum-known-verdict : tie.Need-enum-known-verdict
-enum-known-verdict c = search needs
-
-enum-told : tie.Need-enum-told
-enum-told c = search needs
-
 run-on-requires : tie.Need-run-on-requires
 run-on-requires c κs =
     let accepted = sym (c .before .before .before .verdict-of .ensures) ∙ c .before .enum-told .given .1 in
     fitting _ (accepted-page _ _ _ _ accepted) .0
 
-same-length : tie.Need-same-length
-same-length c = search needs
-
 returns : tie.Need-returns
 returns c = rw (sym (c .before .before .before .verdict-of .ensures) ∙ c .before .verdict .given .1)
-
-same-length-2 : tie.Need-same-length-2
-same-length-2 c = search needs
 
 returns-2 : tie.Need-returns-2
 returns-2 c = rw (sym (c .before .before .before .before .before .before .verdict-of .ensures) ∙ c .before .before .before .before .enum-told .given .1) (c .before .before .run-on .ensures)
 
 pub run-spec : {M : Type 1} → statement M
-run-spec =
-    tie.close
-    (tie.spec
-    verdict-of-requires
-    enum-known-verdict
-    enum-told
-    run-on-requires
-    same-length
-    returns
-    same-length-2
-    returns-2)
+run-spec = tie.close (tie.spec (λ c. search needs) (λ c. search needs) (λ c. search needs)
+    run-on-requires (λ c. search needs) returns (λ c. search needs) returns-2)

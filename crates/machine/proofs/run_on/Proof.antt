@@ -23,12 +23,6 @@ abbrev μ-loop : tie.MeasureT-loop
 loop-holds : tie.Need-loop-holds Inv-loop μ-loop
 loop-holds c = (rw sub-zero, search needs, refl)
 
-execute-requires : tie.Need-execute-requires Inv-loop μ-loop
-execute-requires c κs = search needs
-
-enum-told : tie.Need-enum-told Inv-loop μ-loop
-enum-told c = search needs
-
 add-steps : tie.Need-add-steps Inv-loop μ-loop
 add-steps c = omega arith
 
@@ -42,14 +36,8 @@ loop-again c = (
   c .before .before .before .before .before .execute .kept .1 .1 .1 .0 ∙ c .before .before .before .before .before .before .before .before .loop .inv .2,
 )
 
-enum-known-end : tie.Need-enum-known-end Inv-loop μ-loop
-enum-known-end c = search needs
-
 add-stopped : tie.Need-add-stopped Inv-loop μ-loop
 add-stopped c = omega arith
-
-stopped-requires : tie.Need-stopped-requires Inv-loop μ-loop
-stopped-requires c κs = search needs
 
 same-length : tie.Need-same-length Inv-loop μ-loop
 same-length c = omega arith
@@ -57,14 +45,8 @@ same-length c = omega arith
 returns : tie.Need-returns Inv-loop μ-loop
 returns c = rw (c .stopped .ensures) (turns _ _ _ _ _ _ _ _ _ (c .before .before .before .before .before .before .before .before .before .loop-test .taken) (c .before .before .before .before .before .before .before .execute .ensures) (c .before .before .end .given .1) (c .before .before .before .before .before .before .before .before .before .before .loop .inv .0))
 
-enum-known-end-2 : tie.Need-enum-known-end-2 Inv-loop μ-loop
-enum-known-end-2 c = search needs
-
 add-stopped-2 : tie.Need-add-stopped-2 Inv-loop μ-loop
 add-stopped-2 c = omega arith
-
-stopped-requires-2 : tie.Need-stopped-requires-2 Inv-loop μ-loop
-stopped-requires-2 c κs = search needs
 
 same-length-2 : tie.Need-same-length-2 Inv-loop μ-loop
 same-length-2 c = omega arith
@@ -72,32 +54,17 @@ same-length-2 c = omega arith
 returns-2 : tie.Need-returns-2 Inv-loop μ-loop
 returns-2 c = rw (c .stopped2 .ensures) (turns _ _ _ _ _ _ _ _ _ (c .before .before .before .before .before .before .before .before .before .loop-test .taken) (c .before .before .before .before .before .before .before .execute .ensures) (c .before .before .end2 .given .1) (c .before .before .before .before .before .before .before .before .before .before .loop .inv .0))
 
-enum-known-end-3 : tie.Need-enum-known-end-3 Inv-loop μ-loop
-enum-known-end-3 c = search needs
-
-stopped-requires-3 : tie.Need-stopped-requires-3 Inv-loop μ-loop
-stopped-requires-3 c κs = search needs
-
 same-length-3 : tie.Need-same-length-3 Inv-loop μ-loop
 same-length-3 c = omega arith
 
 returns-3 : tie.Need-returns-3 Inv-loop μ-loop
 returns-3 c = rw (c .stopped3 .ensures) (turns _ _ _ _ _ _ _ _ _ (c .before .before .before .before .before .before .before .before .before .loop-test .taken) (c .before .before .before .before .before .before .before .execute .ensures) (c .before .before .end3 .given .1) (c .before .before .before .before .before .before .before .before .before .before .loop .inv .0))
 
-enum-told-2 : tie.Need-enum-told-2 Inv-loop μ-loop
-enum-told-2 c = search needs
-
-stopped-requires-4 : tie.Need-stopped-requires-4 Inv-loop μ-loop
-stopped-requires-4 c κs = search needs
-
 same-length-4 : tie.Need-same-length-4 Inv-loop μ-loop
 same-length-4 c = omega arith
 
 returns-4 : tie.Need-returns-4 Inv-loop μ-loop
 returns-4 c = rw (c .stopped4 .ensures) (turns _ _ _ _ _ _ _ _ _ (c .before .before .before .before .before .before .before .before .loop-test .taken) (c .before .before .before .before .before .before .execute .ensures) (c .before .enum-told2 .given .1) (c .before .before .before .before .before .before .before .before .before .loop .inv .0))
-
-stopped-requires-5 : tie.Need-stopped-requires-5 Inv-loop μ-loop
-stopped-requires-5 c κs = search needs
 
 same-length-5 : tie.Need-same-length-5 Inv-loop μ-loop
 same-length-5 c = omega arith
@@ -106,35 +73,8 @@ returns-5 : tie.Need-returns-5 Inv-loop μ-loop
 returns-5 c = rw (c .stopped5 .ensures) (sym (spent _ _ _ _ _ (omega arith)) ∙ c .before .before .loop .inv .0)
 
 pub run-on-spec : {M : Type 1} → statement M
-run-on-spec =
-    tie.close
-    (tie.spec
-    Inv-loop
-    μ-loop
-    loop-holds
-    execute-requires
-    enum-told
-    add-steps
-    loop-less
-    loop-again
-    enum-known-end
-    add-stopped
-    stopped-requires
-    same-length
-    returns
-    enum-known-end-2
-    add-stopped-2
-    stopped-requires-2
-    same-length-2
-    returns-2
-    enum-known-end-3
-    stopped-requires-3
-    same-length-3
-    returns-3
-    enum-told-2
-    stopped-requires-4
-    same-length-4
-    returns-4
-    stopped-requires-5
-    same-length-5
-    returns-5)
+run-on-spec = tie.close (tie.spec Inv-loop μ-loop loop-holds (λ c. search needs) (λ c. search needs)
+    add-steps loop-less loop-again (λ c. search needs) add-stopped (λ c. search needs) same-length
+    returns (λ c. search needs) add-stopped-2 (λ c. search needs) same-length-2 returns-2
+    (λ c. search needs) (λ c. search needs) same-length-3 returns-3 (λ c. search needs)
+    (λ c. search needs) same-length-4 returns-4 (λ c. search needs) same-length-5 returns-5)

@@ -29,6 +29,5 @@ returns c =
     c .low-word .ensures ∙ extends _ _ (c .before .before .before .args .x) (e .result) w (e .ok) (e .ensures)
 
 pub extended-spec : {M : Type 1} → statement M
-extended-spec =
-    tie.close
-    (tie.spec width-requires cast-n mul-n sign-extended-requires low-word-requires returns)
+extended-spec = tie.close (tie.spec width-requires cast-n mul-n sign-extended-requires
+    low-word-requires returns)

@@ -6,41 +6,17 @@ use borrow.Author.Needs.{needs}
 use Rattle.memory.proofs.external_load.Statement.{statement}
 use Rattle.memory.proofs.external_load.Tie as tie
 
-mul-least : tie.Need-mul-least
-mul-least c = search needs
-
-cast-least : tie.Need-cast-least
-cast-least c = search needs
-
 least-requires : tie.Need-least-requires
 least-requires c κs = tt
 
-add-least : tie.Need-add-least
-add-least c = search needs
-
 least-requires-2 : tie.Need-least-requires-2
 least-requires-2 c κs = tt
-
-add-at : tie.Need-add-at
-add-at c = search needs
-
-cast-if1 : tie.Need-cast-if1
-cast-if1 c = search needs
 
 width-requires : tie.Need-width-requires
 width-requires c κs = tt
 
 sub-if1 : tie.Need-sub-if1
 sub-if1 c = omega (arith, width-le (c .before .before .before .before .args .size), c .width .ensures)
-
-sub-load : tie.Need-sub-load
-sub-load c = search needs
-
-part-load-start : tie.Need-part-load-start
-part-load-start c = search needs
-
-part-load-end : tie.Need-part-load-end
-part-load-end c = search needs
 
 load-requires : tie.Need-load-requires
 load-requires c κs = tt
@@ -60,21 +36,7 @@ unfolding externalLoaded
 returns-2 c = rw (past 256 _ _ _ (c .before .width .ensures) (c .if1 .left))
 
 pub external-load-spec : {M : Type 1} → statement M
-external-load-spec =
-    tie.close
-    (tie.spec
-    mul-least
-    cast-least
-    least-requires
-    add-least
-    least-requires-2
-    add-at
-    cast-if1
-    width-requires
-    sub-if1
-    sub-load
-    part-load-start
-    part-load-end
-    load-requires
-    returns
+external-load-spec = tie.close (tie.spec (λ c. search needs) (λ c. search needs) least-requires
+    (λ c. search needs) least-requires-2 (λ c. search needs) (λ c. search needs) width-requires
+    sub-if1 (λ c. search needs) (λ c. search needs) (λ c. search needs) load-requires returns
     returns-2)

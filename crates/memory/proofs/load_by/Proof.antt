@@ -3,23 +3,8 @@ use borrow.Author.Needs.{needs}
 use Rattle.memory.proofs.load_by.Statement.{statement}
 use Rattle.memory.proofs.load_by.Tie as tie
 
-enum-told : tie.Need-enum-told
-enum-told c = search needs
-
-enum-known-base : tie.Need-enum-known-base
-enum-known-base c = search needs
-
-cast-ram-load : tie.Need-cast-ram-load
-cast-ram-load c = search needs
-
-add-ram-load : tie.Need-add-ram-load
-add-ram-load c = search needs
-
 ram-load-requires : tie.Need-ram-load-requires
 ram-load-requires c κs = tt
-
-enum-known-base-2 : tie.Need-enum-known-base-2
-enum-known-base-2 c = search needs
 
 external-load-requires : tie.Need-external-load-requires
 external-load-requires c κs = tt
@@ -41,17 +26,6 @@ unfolding loadedBy
 returns-4 c = rw (c .before .before .before .base2 .given .1, c .before .if1 .left) (c .external-load .ensures)
 
 pub load-by-spec : {M : Type 1} → statement M
-load-by-spec =
-    tie.close
-    (tie.spec
-    enum-told
-    enum-known-base
-    cast-ram-load
-    add-ram-load
-    ram-load-requires
-    enum-known-base-2
-    external-load-requires
-    returns
-    returns-2
-    returns-3
-    returns-4)
+load-by-spec = tie.close (tie.spec (λ c. search needs) (λ c. search needs) (λ c. search needs)
+    (λ c. search needs) ram-load-requires (λ c. search needs) external-load-requires returns
+    returns-2 returns-3 returns-4)

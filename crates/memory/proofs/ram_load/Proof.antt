@@ -12,9 +12,6 @@ width-requires c κs = tt
 sub-if1 : tie.Need-sub-if1
 sub-if1 c = omega (arith, width-le (c .before .before .args .size), c .width .ensures)
 
-cast-load : tie.Need-cast-load
-cast-load c = search needs
-
 load-requires : tie.Need-load-requires
 load-requires c κs = tt
 
@@ -27,5 +24,5 @@ unfolding ramLoaded
 returns-2 c = rw (past 32768 _ _ _ (c .before .width .ensures) (c .if1 .left))
 
 pub ram-load-spec : {M : Type 1} → statement M
-ram-load-spec =
-    tie.close (tie.spec width-requires sub-if1 cast-load load-requires returns returns-2)
+ram-load-spec = tie.close (tie.spec width-requires sub-if1 (λ c. search needs) load-requires returns
+    returns-2)

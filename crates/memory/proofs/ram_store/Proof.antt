@@ -13,14 +13,8 @@ width-requires c κs = tt
 sub-last : tie.Need-sub-last
 sub-last c = omega (arith, width-le (c .before .before .args .size), c .width .ensures)
 
-cast-store : tie.Need-cast-store
-cast-store c = search needs
-
 store-requires : tie.Need-store-requires
 store-requires c κs = tt
-
-same-length : tie.Need-same-length
-same-length c = search needs
 
 returns : tie.Need-returns
 unfolding ramStored ramAfter
@@ -31,6 +25,5 @@ unfolding ramStored ramAfter
 returns-2 c = rw (past 32768 _ _ _ (c .before .width .ensures) (c .if1 .left)) (refl, refl)
 
 pub ram-store-spec : {M : Type 1} → statement M
-ram-store-spec =
-    tie.close
-    (tie.spec width-requires sub-last cast-store store-requires same-length returns returns-2)
+ram-store-spec = tie.close (tie.spec width-requires sub-last (λ c. search needs) store-requires
+    (λ c. search needs) returns returns-2)

@@ -6,12 +6,6 @@ use borrow.Author.Needs.{needs}
 use Rattle.place.proofs.is_fit.Statement.{statement}
 use Rattle.place.proofs.is_fit.Tie as tie
 
-cast-k : tie.Need-cast-k
-cast-k c = search needs
-
-count-requires : tie.Need-count-requires
-count-requires c κs = search needs
-
 returns : tie.Need-returns
 unfolding fitPlace
 returns c = rw (← ap (λ (x : Counted). x .count) (c .before .before .count .ensures), le-ltb _ _ (c .if1 .taken))
@@ -20,40 +14,11 @@ returns-2 : tie.Need-returns-2
 unfolding fitPlace
 returns-2 c = rw (← ap (λ (x : Counted). x .count) (c .before .before .before .count .ensures), lt-ltb _ _ (c .before .if1 .left), eq-eqb _ _ (c .if2 .taken))
 
-mul-halfword : tie.Need-mul-halfword
-mul-halfword c = search needs
-
-halfword-requires : tie.Need-halfword-requires
-halfword-requires c κs = search needs
-
-mul-halfword-2 : tie.Need-mul-halfword-2
-mul-halfword-2 c = search needs
-
-add-halfword : tie.Need-add-halfword
-add-halfword c = search needs
-
-halfword-requires-2 : tie.Need-halfword-requires-2
-halfword-requires-2 c κs = search needs
-
-second-fits-requires : tie.Need-second-fits-requires
-second-fits-requires c κs = search needs
-
 returns-3 : tie.Need-returns-3
 unfolding fitPlace
 returns-3 c = rw (← ap (λ (x : Counted). x .count) (c .before .before .before .before .before .before .count .ensures), lt-ltb _ _ (c .before .before .before .before .if1 .left), ne-eqb _ _ (c .before .before .before .if2 .left), c .second-fits .ensures, c .before .halfword2 .ensures, c .before .before .halfword .ensures)
 
 pub is-fit-spec : {M : Type 1} → statement M
-is-fit-spec =
-    tie.close
-    (tie.spec
-    cast-k
-    count-requires
-    returns
-    returns-2
-    mul-halfword
-    halfword-requires
-    mul-halfword-2
-    add-halfword
-    halfword-requires-2
-    second-fits-requires
-    returns-3)
+is-fit-spec = tie.close (tie.spec (λ c. search needs) (λ c. search needs) returns returns-2
+    (λ c. search needs) (λ c. search needs) (λ c. search needs) (λ c. search needs)
+    (λ c. search needs) (λ c. search needs) returns-3)

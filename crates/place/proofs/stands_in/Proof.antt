@@ -4,12 +4,6 @@ use borrow.Author.Needs.{needs}
 use Rattle.place.proofs.stands_in.Statement.{statement}
 use Rattle.place.proofs.stands_in.Tie as tie
 
-opens-32-requires : tie.Need-opens-32-requires
-opens-32-requires c κs = search needs
-
-decode32-requires : tie.Need-decode32-requires
-decode32-requires c κs = search needs
-
 returns : tie.Need-returns
 unfolding standsIn
 returns c = rw (sym (c .before .before .before .opens-32 .ensures) ∙ c .before .before .if1 .taken, c .before .if2 .taken) (c .decode32 .ensures)
@@ -17,12 +11,6 @@ returns c = rw (sym (c .before .before .before .opens-32 .ensures) ∙ c .before
 returns-2 : tie.Need-returns-2
 unfolding standsIn
 returns-2 c = rw (sym (c .before .before .opens-32 .ensures) ∙ c .before .if1 .taken, c .if2 .left)
-
-decode16-requires : tie.Need-decode16-requires
-decode16-requires c κs = search needs
-
-decode16-requires-2 : tie.Need-decode16-requires-2
-decode16-requires-2 c κs = search needs
 
 returns-3 : tie.Need-returns-3
 unfolding standsIn
@@ -33,14 +21,5 @@ unfolding standsIn
 returns-4 c = rw (sym (c .before .before .before .opens-32 .ensures) ∙ c .before .before .if1 .left, c .before .if3 .left) (c .decode162 .ensures)
 
 pub stands-in-spec : {M : Type 1} → statement M
-stands-in-spec =
-    tie.close
-    (tie.spec
-    opens-32-requires
-    decode32-requires
-    returns
-    returns-2
-    decode16-requires
-    decode16-requires-2
-    returns-3
-    returns-4)
+stands-in-spec = tie.close (tie.spec (λ c. search needs) (λ c. search needs) returns returns-2
+    (λ c. search needs) (λ c. search needs) returns-3 returns-4)

@@ -5,18 +5,6 @@ use borrow.Author.Needs.{needs}
 use Rattle.prefix.proofs.with_successor.Statement.{statement}
 use Rattle.prefix.proofs.with_successor.Tie as tie
 
-enum-told : tie.Need-enum-told
-enum-told c = search needs
-
-enum-told-2 : tie.Need-enum-told-2
-enum-told-2 c = search needs
-
-enum-known-r : tie.Need-enum-known-r
-enum-known-r c = search needs
-
-returns : tie.Need-returns
-returns c = search needs
-
 returns-2 : tie.Need-returns-2
 returns-2 c = rw (c .enum-told2 .given .1)
 
@@ -27,5 +15,5 @@ returns-4 : tie.Need-returns-4
 returns-4 c = rw (c .before .before .r .given .1) (ap Largest (omega arith))
 
 pub with-successor-spec : {M : Type 1} → statement M
-with-successor-spec =
-    tie.close (tie.spec enum-told enum-told-2 enum-known-r returns returns-2 returns-3 returns-4)
+with-successor-spec = tie.close (tie.spec (λ c. search needs) (λ c. search needs)
+    (λ c. search needs) (λ c. search needs) returns-2 returns-3 returns-4)

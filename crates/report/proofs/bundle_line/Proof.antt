@@ -5,12 +5,6 @@ use Rattle.report.proofs.ListerLines.{fields-grow}
 use Rattle.report.proofs.bundle_line.Statement.{statement}
 use Rattle.report.proofs.bundle_line.Tie as tie
 
-fresh-requires : tie.Need-fresh-requires
-fresh-requires c κs = search needs
-
-put-decimal-requires : tie.Need-put-decimal-requires
-put-decimal-requires c κs = search needs
-
 push-requires : tie.Need-push-requires
 push-requires c κs = omega fields-grow
 
@@ -42,9 +36,6 @@ emit-requires : tie.Need-emit-requires
 emit-requires c κs =
     omega (fields-grow, c .before .before .before .before .before .before)
 
-same-length : tie.Need-same-length
-same-length c = search needs
-
 returns : tie.Need-returns
 unfolding bundleText
 returns c =
@@ -61,20 +52,6 @@ returns c =
     rw (whole (number .before .before .fresh .ensures) text) at (c .before .before .emit .ensures)
 
 pub bundle-line-spec : {M : Type 1} → statement M
-bundle-line-spec =
-    tie.close
-    (tie.spec
-    fresh-requires
-    put-decimal-requires
-    push-requires
-    put-hex-requires
-    push-requires-2
-    put-hex-requires-2
-    push-requires-3
-    put-inside-requires
-    push-requires-4
-    put-reach-requires
-    push-requires-5
-    emit-requires
-    same-length
-    returns)
+bundle-line-spec = tie.close (tie.spec (λ c. search needs) (λ c. search needs) push-requires
+    put-hex-requires push-requires-2 put-hex-requires-2 push-requires-3 put-inside-requires
+    push-requires-4 put-reach-requires push-requires-5 emit-requires (λ c. search needs) returns)

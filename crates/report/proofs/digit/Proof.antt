@@ -5,18 +5,6 @@ use Rattle.report.specs.Digits.{digit}
 use Rattle.report.proofs.digit.Statement.{statement}
 use Rattle.report.proofs.digit.Tie as tie
 
-cast-result : tie.Need-cast-result
-cast-result c = search needs
-
-add-result : tie.Need-add-result
-add-result c = search needs
-
-cast-result-2 : tie.Need-cast-result-2
-cast-result-2 c = search needs
-
-add-result-2 : tie.Need-add-result-2
-add-result-2 c = search needs
-
 returns : tie.Need-returns
 unfolding digit
 returns c = rw (lt-ltb _ _ (c .if1 .taken)) (omega arith)
@@ -26,5 +14,5 @@ unfolding digit
 returns-2 c = rw (le-ltb _ _ (c .if1 .left)) (omega arith)
 
 pub digit-spec : {M : Type 1} → statement M
-digit-spec =
-    tie.close (tie.spec cast-result add-result cast-result-2 add-result-2 returns returns-2)
+digit-spec = tie.close (tie.spec (λ c. search needs) (λ c. search needs) (λ c. search needs)
+    (λ c. search needs) returns returns-2)

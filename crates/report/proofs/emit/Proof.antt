@@ -15,16 +15,6 @@ array-share-prefix-bytes c = omega (arith, long (c .before .before))
 slice-aggregate-place : tie.Need-slice-aggregate-place
 slice-aggregate-place c = sym (length-take-le _ (c .before .before .before .args .l .bytes) (omega (arith, long (c .before .before .before))))
 
-place-requires : tie.Need-place-requires
-place-requires c κs = search needs
-
-same-length : tie.Need-same-length
-same-length c = search needs
-
-returns : tie.Need-returns
-returns c = search needs
-
 pub emit-spec : {M : Type 1} → statement M
-emit-spec =
-    tie.close
-    (tie.spec array-share-prefix-bytes slice-aggregate-place place-requires same-length returns)
+emit-spec = tie.close (tie.spec array-share-prefix-bytes slice-aggregate-place (λ c. search needs)
+    (λ c. search needs) (λ c. search needs))

@@ -5,18 +5,6 @@ use Rattle.report.proofs.RunnerLines.{run-grows}
 use Rattle.report.proofs.flags_line.Statement.{statement}
 use Rattle.report.proofs.flags_line.Tie as tie
 
-fresh-requires : tie.Need-fresh-requires
-fresh-requires c κs = search needs
-
-slice-aggregate-put : tie.Need-slice-aggregate-put
-slice-aggregate-put c = search needs
-
-put-requires : tie.Need-put-requires
-put-requires c κs = search needs
-
-put-flag-requires : tie.Need-put-flag-requires
-put-flag-requires c κs = search needs
-
 put-flag-requires-2 : tie.Need-put-flag-requires-2
 put-flag-requires-2 c κs = omega run-grows
 
@@ -32,9 +20,6 @@ push-requires c κs = omega run-grows
 emit-requires : tie.Need-emit-requires
 emit-requires c κs = omega run-grows
 
-same-length : tie.Need-same-length
-same-length c = search needs
-
 returns : tie.Need-returns
 unfolding flagsText
 returns c =
@@ -48,17 +33,6 @@ returns c =
     rw (whole (first .before .before .before .fresh .ensures) text) at (c .before .before .emit .ensures)
 
 pub flags-line-spec : {M : Type 1} → statement M
-flags-line-spec =
-    tie.close
-    (tie.spec
-    fresh-requires
-    slice-aggregate-put
-    put-requires
-    put-flag-requires
-    put-flag-requires-2
-    put-flag-requires-3
-    put-flag-requires-4
-    push-requires
-    emit-requires
-    same-length
-    returns)
+flags-line-spec = tie.close (tie.spec (λ c. search needs) (λ c. search needs) (λ c. search needs)
+    (λ c. search needs) put-flag-requires-2 put-flag-requires-3 put-flag-requires-4 push-requires
+    emit-requires (λ c. search needs) returns)

@@ -4,20 +4,8 @@ use Rattle.report.proofs.Lines.{_then_, whole, grows}
 use Rattle.report.proofs.head_line.Statement.{statement}
 use Rattle.report.proofs.head_line.Tie as tie
 
-fresh-requires : tie.Need-fresh-requires
-fresh-requires c κs = search needs
-
-slice-aggregate-put : tie.Need-slice-aggregate-put
-slice-aggregate-put c = search needs
-
-put-requires : tie.Need-put-requires
-put-requires c κs = search needs
-
 put-decimal-requires : tie.Need-put-decimal-requires
 put-decimal-requires c κs = omega grows
-
-slice-aggregate-put-2 : tie.Need-slice-aggregate-put-2
-slice-aggregate-put-2 c = search needs
 
 put-requires-2 : tie.Need-put-requires-2
 put-requires-2 c κs = omega grows
@@ -30,9 +18,6 @@ push-requires c κs = omega grows
 
 emit-requires : tie.Need-emit-requires
 emit-requires c κs = omega grows
-
-same-length : tie.Need-same-length
-same-length c = search needs
 
 returns : tie.Need-returns
 unfolding headText
@@ -47,17 +32,6 @@ returns c =
     rw (whole (named .before .before .before .fresh .ensures) text) at (c .before .before .emit .ensures)
 
 pub head-line-spec : {M : Type 1} → statement M
-head-line-spec =
-    tie.close
-    (tie.spec
-    fresh-requires
-    slice-aggregate-put
-    put-requires
-    put-decimal-requires
-    slice-aggregate-put-2
-    put-requires-2
-    put-decimal-requires-2
-    push-requires
-    emit-requires
-    same-length
-    returns)
+head-line-spec = tie.close (tie.spec (λ c. search needs) (λ c. search needs) (λ c. search needs)
+    put-decimal-requires (λ c. search needs) put-requires-2 put-decimal-requires-2 push-requires
+    emit-requires (λ c. search needs) returns)

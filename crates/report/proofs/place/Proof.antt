@@ -56,17 +56,5 @@ returns-2 c =
     rw h (fitted text (args .room .now) (omega arith))
 
 pub place-spec : {M : Type 1} → statement M
-place-spec =
-    tie.close
-    (tie.spec
-    Inv-loop
-    μ-loop
-    returns
-    loop-holds
-    shared-slice-read-room
-    slice-write-room
-    add-i
-    loop-less
-    loop-again
-    same-length
-    returns-2)
+place-spec = tie.close (tie.spec Inv-loop μ-loop returns loop-holds shared-slice-read-room
+    slice-write-room add-i loop-less loop-again same-length returns-2)

@@ -43,15 +43,5 @@ returns c =
     rw (take-all (c .before .loop .i) (c .before .before .before .args .text .now) (c .loop-test .left)) at (c .before .loop .inv .0)
 
 pub put-spec : {M : Type 1} → statement M
-put-spec =
-    tie.close
-    (tie.spec
-    Inv-loop
-    μ-loop
-    loop-holds
-    shared-slice-read-push
-    push-requires
-    add-i
-    loop-less
-    loop-again
-    returns)
+put-spec = tie.close (tie.spec Inv-loop μ-loop loop-holds shared-slice-read-push push-requires add-i
+    loop-less loop-again returns)

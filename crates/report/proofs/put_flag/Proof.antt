@@ -3,12 +3,6 @@ use Rattle.report.specs.RunnerLines.{flagText}
 use Rattle.report.proofs.put_flag.Statement.{statement}
 use Rattle.report.proofs.put_flag.Tie as tie
 
-push-requires : tie.Need-push-requires
-push-requires c κs = search needs
-
-push-requires-2 : tie.Need-push-requires-2
-push-requires-2 c κs = search needs
-
 returns : tie.Need-returns
 unfolding flagText
 returns c = rw (c .before .if1 .taken) (c .push .ensures)
@@ -18,4 +12,4 @@ unfolding flagText
 returns-2 c = rw (c .before .if1 .left) (c .push2 .ensures)
 
 pub put-flag-spec : {M : Type 1} → statement M
-put-flag-spec = tie.close (tie.spec push-requires push-requires-2 returns returns-2)
+put-flag-spec = tie.close (tie.spec (λ c. search needs) (λ c. search needs) returns returns-2)

@@ -58,17 +58,5 @@ returns c =
     rw (take-all (c .before .loop .i) words h) at (c .before .loop .inv .0)
 
 pub put-words-spec : {M : Type 1} → statement M
-put-words-spec =
-    tie.close
-    (tie.spec
-    Inv-loop
-    μ-loop
-    loop-holds
-    push-requires
-    mul-put-hex
-    array-read-put-hex
-    put-hex-requires
-    add-i
-    loop-less
-    loop-again
-    returns)
+put-words-spec = tie.close (tie.spec Inv-loop μ-loop loop-holds push-requires mul-put-hex
+    array-read-put-hex put-hex-requires add-i loop-less loop-again returns)

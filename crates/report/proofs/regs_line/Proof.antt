@@ -6,26 +6,11 @@ use Rattle.report.proofs.RunnerLines.{words-length}
 use Rattle.report.proofs.regs_line.Statement.{statement}
 use Rattle.report.proofs.regs_line.Tie as tie
 
-fresh-requires : tie.Need-fresh-requires
-fresh-requires c κs = search needs
-
-slice-aggregate-put : tie.Need-slice-aggregate-put
-slice-aggregate-put c = search needs
-
-put-requires : tie.Need-put-requires
-put-requires c κs = search needs
-
-put-words-requires : tie.Need-put-words-requires
-put-words-requires c κs = search needs
-
 push-requires : tie.Need-push-requires
 push-requires c κs = omega (arith, words-length (c .before .before .before .before .before .args .regs))
 
 emit-requires : tie.Need-emit-requires
 emit-requires c κs = omega (arith, words-length (c .before .before .before .before .before .before .before .args .regs))
-
-same-length : tie.Need-same-length
-same-length c = search needs
 
 returns : tie.Need-returns
 unfolding regsText
@@ -35,14 +20,5 @@ returns c =
     rw (whole (line .before .before .before .before .fresh .ensures) text) at (c .before .before .emit .ensures)
 
 pub regs-line-spec : {M : Type 1} → statement M
-regs-line-spec =
-    tie.close
-    (tie.spec
-    fresh-requires
-    slice-aggregate-put
-    put-requires
-    put-words-requires
-    push-requires
-    emit-requires
-    same-length
-    returns)
+regs-line-spec = tie.close (tie.spec (λ c. search needs) (λ c. search needs) (λ c. search needs)
+    (λ c. search needs) push-requires emit-requires (λ c. search needs) returns)

@@ -3,19 +3,10 @@ use Rattle.report.specs.RunnerLines.{stepsText}
 use Rattle.report.proofs.steps_line.Statement.{statement}
 use Rattle.report.proofs.steps_line.Tie as tie
 
-slice-aggregate-number-line : tie.Need-slice-aggregate-number-line
-slice-aggregate-number-line c = search needs
-
-number-line-requires : tie.Need-number-line-requires
-number-line-requires c κs = search needs
-
-same-length : tie.Need-same-length
-same-length c = search needs
-
 returns : tie.Need-returns
 unfolding stepsText
 returns c = c .before .before .number-line .ensures
 
 pub steps-line-spec : {M : Type 1} → statement M
-steps-line-spec =
-    tie.close (tie.spec slice-aggregate-number-line number-line-requires same-length returns)
+steps-line-spec = tie.close (tie.spec (λ c. search needs) (λ c. search needs) (λ c. search needs)
+    returns)

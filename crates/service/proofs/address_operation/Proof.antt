@@ -11,27 +11,6 @@ use borrow.Author.Needs.{needs}
 use Rattle.service.proofs.address_operation.Statement.{statement}
 use Rattle.service.proofs.address_operation.Tie as tie
 
-field-requires : tie.Need-field-requires
-field-requires c κs = search needs
-
-field-requires-2 : tie.Need-field-requires-2
-field-requires-2 c κs = search needs
-
-field-requires-3 : tie.Need-field-requires-3
-field-requires-3 c κs = search needs
-
-mul-t6 : tie.Need-mul-t6
-mul-t6 c = search needs
-
-add-t7 : tie.Need-add-t7
-add-t7 c = search needs
-
-cast-t13 : tie.Need-cast-t13
-cast-t13 c = search needs
-
-cast-t18 : tie.Need-cast-t18
-cast-t18 c = search needs
-
 -- by the fields that the code reads
 abbrev listed : tie.After-field3 → List Service
 listed c = operations (bit (c .before .before .before .args .w) 29) (c .field3 .result)
@@ -101,23 +80,7 @@ returns-10 : tie.Need-returns-10
 returns-10 c = sym (by-fields (c .before) ∙ List·getD-eq-default (listed (c .before)) Bad (past 6 (c .match .rest)))
 
 pub address-operation-spec : {M : Type 1} → statement M
-address-operation-spec =
-    tie.close
-    (tie.spec
-    field-requires
-    field-requires-2
-    field-requires-3
-    mul-t6
-    add-t7
-    cast-t13
-    cast-t18
-    returns
-    returns-2
-    returns-3
-    returns-4
-    returns-5
-    returns-6
-    returns-7
-    returns-8
-    returns-9
-    returns-10)
+address-operation-spec = tie.close (tie.spec (λ c. search needs) (λ c. search needs)
+    (λ c. search needs) (λ c. search needs) (λ c. search needs) (λ c. search needs)
+    (λ c. search needs) returns returns-2 returns-3 returns-4 returns-5 returns-6 returns-7
+    returns-8 returns-9 returns-10)

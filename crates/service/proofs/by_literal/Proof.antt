@@ -4,12 +4,6 @@ use borrow.Author.Needs.{needs}
 use Rattle.service.proofs.by_literal.Statement.{statement}
 use Rattle.service.proofs.by_literal.Tie as tie
 
-word-requires : tie.Need-word-requires
-word-requires c κs = search needs
-
-literal-requires : tie.Need-literal-requires
-literal-requires c κs = search needs
-
 returns : tie.Need-returns
 unfolding byLiteral
 returns c = rw (lt-ltb _ _ (c .before .before .if1 .taken), ← c .before .word .ensures) (c .literal .ensures)
@@ -19,4 +13,4 @@ unfolding byLiteral
 returns-2 c = rw (le-ltb _ _ (c .if1 .left))
 
 pub by-literal-spec : {M : Type 1} → statement M
-by-literal-spec = tie.close (tie.spec word-requires literal-requires returns returns-2)
+by-literal-spec = tie.close (tie.spec (λ c. search needs) (λ c. search needs) returns returns-2)

@@ -8,9 +8,6 @@ use borrow.Author.Needs.{needs}
 use Rattle.service.proofs.call.Statement.{statement}
 use Rattle.service.proofs.call.Tie as tie
 
-field-requires : tie.Need-field-requires
-field-requires c κs = search needs
-
 returns : tie.Need-returns
 unfolding callOf
 returns c = rw (← c .before .field .ensures, c .match .keys1)
@@ -26,4 +23,4 @@ returns-3 c =
     (sym (List·getD-eq-default (Call ∷ TailCall ∷ []) Bad (past 2 (c .match .rest))))
 
 pub call-spec : {M : Type 1} → statement M
-call-spec = tie.close (tie.spec field-requires returns returns-2 returns-3)
+call-spec = tie.close (tie.spec (λ c. search needs) returns returns-2 returns-3)

@@ -4,21 +4,9 @@ use borrow.Author.Needs.{needs}
 use Rattle.service.proofs.literal.Statement.{statement}
 use Rattle.service.proofs.literal.Tie as tie
 
-field-requires : tie.Need-field-requires
-field-requires c κs = search needs
-
-call-requires : tie.Need-call-requires
-call-requires c κs = search needs
-
 returns : tie.Need-returns
 unfolding literalOf
 returns c = rw (clear _ 31 (c .before .before .field .ensures) (c .before .if1 .taken)) (c .call .ensures)
-
-field-requires-2 : tie.Need-field-requires-2
-field-requires-2 c κs = search needs
-
-syscall-requires : tie.Need-syscall-requires
-syscall-requires c κs = search needs
 
 returns-2 : tie.Need-returns-2
 unfolding literalOf
@@ -28,9 +16,6 @@ returns-2 c =
       clear _ 30 (c .before .before .field2 .ensures) (c .before .if2 .taken),
     )
     (c .syscall .ensures)
-
-address-operation-requires : tie.Need-address-operation-requires
-address-operation-requires c κs = search needs
 
 returns-3 : tie.Need-returns-3
 unfolding literalOf
@@ -42,14 +27,5 @@ returns-3 c =
     (c .address-operation .ensures)
 
 pub literal-spec : {M : Type 1} → statement M
-literal-spec =
-    tie.close
-    (tie.spec
-    field-requires
-    call-requires
-    returns
-    field-requires-2
-    syscall-requires
-    returns-2
-    address-operation-requires
-    returns-3)
+literal-spec = tie.close (tie.spec (λ c. search needs) (λ c. search needs) returns
+    (λ c. search needs) (λ c. search needs) returns-2 (λ c. search needs) returns-3)

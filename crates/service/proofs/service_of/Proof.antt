@@ -9,9 +9,6 @@ returns : tie.Need-returns
 unfolding serviceOf
 returns c = rw (le-leb _ _ (c .if1 .taken))
 
-by-literal-requires : tie.Need-by-literal-requires
-by-literal-requires c κs = search needs
-
 returns-2 : tie.Need-returns-2
 unfolding serviceOf
 returns-2 c =
@@ -30,9 +27,6 @@ returns-3 c =
       le-leb _ _ (c .if3 .taken),
       div-one,
     )
-
-cast-t7 : tie.Need-cast-t7
-cast-t7 c = search needs
 
 returns-4 : tie.Need-returns-4
 unfolding serviceOf
@@ -113,17 +107,5 @@ returns-9 c =
     )
 
 pub service-of-spec : {M : Type 1} → statement M
-service-of-spec =
-    tie.close
-    (tie.spec
-    returns
-    by-literal-requires
-    returns-2
-    returns-3
-    cast-t7
-    returns-4
-    returns-5
-    returns-6
-    returns-7
-    returns-8
-    returns-9)
+service-of-spec = tie.close (tie.spec returns (λ c. search needs) returns-2 returns-3
+    (λ c. search needs) returns-4 returns-5 returns-6 returns-7 returns-8 returns-9)

@@ -4,15 +4,9 @@ use borrow.Author.Needs.{needs}
 use Rattle.service.proofs.syscall.Statement.{statement}
 use Rattle.service.proofs.syscall.Tie as tie
 
-field-requires : tie.Need-field-requires
-field-requires c κs = search needs
-
 returns : tie.Need-returns
 unfolding syscallOf
 returns c = rw (← c .before .field .ensures, lt-leb _ _ (c .if1 .taken))
-
-field-requires-2 : tie.Need-field-requires-2
-field-requires-2 c κs = search needs
 
 returns-2 : tie.Need-returns-2
 unfolding syscallOf
@@ -35,4 +29,5 @@ returns-3 c =
     )
 
 pub syscall-spec : {M : Type 1} → statement M
-syscall-spec = tie.close (tie.spec field-requires returns field-requires-2 returns-2 returns-3)
+syscall-spec = tie.close (tie.spec (λ c. search needs) returns (λ c. search needs) returns-2
+    returns-3)

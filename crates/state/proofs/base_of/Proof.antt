@@ -4,18 +4,9 @@ use borrow.Author.Needs.{needs}
 use Rattle.state.proofs.base_of.Statement.{statement}
 use Rattle.state.proofs.base_of.Tie as tie
 
-add-t5 : tie.Need-add-t5
-add-t5 c = search needs
-
-sub-t6 : tie.Need-sub-t6
-sub-t6 c = search needs
-
 returns : tie.Need-returns
 unfolding validated
 returns c = rw (lt-ltb _ _ (c .if1 .taken))
-
-cast-if2 : tie.Need-cast-if2
-cast-if2 c = search needs
 
 returns-2 : tie.Need-returns-2
 unfolding validated
@@ -26,4 +17,5 @@ unfolding validated
 returns-3 c = rw (le-ltb _ _ (c .before .if1 .left), le-ltb _ _ (c .if2 .left))
 
 pub base-of-spec : {M : Type 1} → statement M
-base-of-spec = tie.close (tie.spec add-t5 sub-t6 returns cast-if2 returns-2 returns-3)
+base-of-spec = tie.close (tie.spec (λ c. search needs) (λ c. search needs) returns
+    (λ c. search needs) returns-2 returns-3)

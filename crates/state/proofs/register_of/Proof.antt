@@ -5,15 +5,6 @@ use borrow.Author.Needs.{needs}
 use Rattle.state.proofs.register_of.Statement.{statement}
 use Rattle.state.proofs.register_of.Tie as tie
 
-mul-result : tie.Need-mul-result
-mul-result c = search needs
-
-element-copy-out-result : tie.Need-element-copy-out-result
-element-copy-out-result c = search needs
-
-returns : tie.Need-returns
-returns c = search needs
-
 returns-2 : tie.Need-returns-2
 returns-2 c =
     let regs = c .before .args .t1 .regs in
@@ -21,4 +12,5 @@ returns-2 c =
     sym (List·getD-eq-default regs 0 (omega arith))
 
 pub register-of-spec : {M : Type 1} → statement M
-register-of-spec = tie.close (tie.spec mul-result element-copy-out-result returns returns-2)
+register-of-spec = tie.close (tie.spec (λ c. search needs) (λ c. search needs) (λ c. search needs)
+    returns-2)

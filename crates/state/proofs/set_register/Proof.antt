@@ -7,12 +7,6 @@ use Rattle.state.specs.Record.{withRegister}
 use Rattle.state.proofs.set_register.Statement.{statement}
 use Rattle.state.proofs.set_register.Tie as tie
 
-mul-s : tie.Need-mul-s
-mul-s c = search needs
-
-element-write-s : tie.Need-element-write-s
-element-write-s c = search needs
-
 returns : tie.Need-returns
 unfolding withRegister
 returns c = refl
@@ -25,4 +19,4 @@ returns-2 c =
     rw (set-out regs (c .before .args .k) (c .before .args .x) (omega arith))
 
 pub set-register-spec : {M : Type 1} → statement M
-set-register-spec = tie.close (tie.spec mul-s element-write-s returns returns-2)
+set-register-spec = tie.close (tie.spec (λ c. search needs) (λ c. search needs) returns returns-2)

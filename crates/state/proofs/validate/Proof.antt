@@ -4,17 +4,11 @@ use borrow.Author.Needs.{needs}
 use Rattle.state.proofs.validate.Statement.{statement}
 use Rattle.state.proofs.validate.Tie as tie
 
-external-fits-requires : tie.Need-external-fits-requires
-external-fits-requires c κs = search needs
-
 returns : tie.Need-returns
 returns c = rw (sym (c .before .external-fits .ensures) ∙ not-true _ (c .if1 .taken))
-
-base-of-requires : tie.Need-base-of-requires
-base-of-requires c κs = search needs
 
 returns-2 : tie.Need-returns-2
 returns-2 c = rw (sym (c .before .before .external-fits .ensures) ∙ not-false _ (c .before .if1 .left), c .base-of .ensures)
 
 pub validate-spec : {M : Type 1} → statement M
-validate-spec = tie.close (tie.spec external-fits-requires returns base-of-requires returns-2)
+validate-spec = tie.close (tie.spec (λ c. search needs) returns (λ c. search needs) returns-2)

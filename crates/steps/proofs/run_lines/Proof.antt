@@ -14,9 +14,6 @@ abbrev μ-loop : tie.MeasureT-loop
 loop-holds : tie.Need-loop-holds Inv-loop μ-loop
 loop-holds c = omega arith
 
-line-end-requires : tie.Need-line-end-requires Inv-loop μ-loop
-line-end-requires c κs = search needs
-
 sub-run-line : tie.Need-sub-run-line Inv-loop μ-loop
 sub-run-line c = omega arith
 
@@ -25,9 +22,6 @@ part-run-line-start c = omega arith
 
 part-run-line-end : tie.Need-part-run-line-end Inv-loop μ-loop
 part-run-line-end c = omega arith
-
-run-line-requires : tie.Need-run-line-requires Inv-loop μ-loop
-run-line-requires c κs = search needs
 
 add-start : tie.Need-add-start Inv-loop μ-loop
 add-start c = omega arith
@@ -38,22 +32,7 @@ loop-less c = omega arith
 loop-again : tie.Need-loop-again Inv-loop μ-loop
 loop-again c = omega arith
 
-returns : tie.Need-returns Inv-loop μ-loop
-returns c = search needs
-
 pub run-lines-spec : {M : Type 1} → statement M
-run-lines-spec =
-    tie.close
-    (tie.spec
-    Inv-loop
-    μ-loop
-    loop-holds
-    line-end-requires
-    sub-run-line
-    part-run-line-start
-    part-run-line-end
-    run-line-requires
-    add-start
-    loop-less
-    loop-again
-    returns)
+run-lines-spec = tie.close (tie.spec Inv-loop μ-loop loop-holds (λ c. search needs) sub-run-line
+    part-run-line-start part-run-line-end (λ c. search needs) add-start loop-less loop-again
+    (λ c. search needs))

@@ -9,9 +9,6 @@ use Rattle.transcript.proofs.put_lines.Tie as tie
 eight : (c : tie.After-put-stop) → length (c .before .before .before .before .before .args .r .regs) ≡ 8
 eight c = search needs
 
-put-stop-requires : tie.Need-put-stop-requires
-put-stop-requires c κs = search needs
-
 put-steps-requires : tie.Need-put-steps-requires
 put-steps-requires c κs = omega ends
 
@@ -25,9 +22,6 @@ put-flags-requires : tie.Need-put-flags-requires
 put-flags-requires c κs =
     let place = c .before .before .before .before .before .before .before in
     omega (ends, eight (place .before .before .before .before .before .before .before .before))
-
-same-length : tie.Need-same-length
-same-length c = search needs
 
 returns : tie.Need-returns
 returns c =
@@ -46,13 +40,5 @@ returns c =
     )
 
 pub put-lines-spec : {M : Type 1} → statement M
-put-lines-spec =
-    tie.close
-    (tie.spec
-    put-stop-requires
-    put-steps-requires
-    put-place-requires
-    put-regs-requires
-    put-flags-requires
-    same-length
-    returns)
+put-lines-spec = tie.close (tie.spec (λ c. search needs) put-steps-requires put-place-requires
+    put-regs-requires put-flags-requires (λ c. search needs) returns)

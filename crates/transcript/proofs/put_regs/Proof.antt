@@ -8,21 +8,6 @@ use Rattle.transcript.proofs.Lengths.{regs-length}
 use Rattle.transcript.proofs.put_regs.Statement.{statement}
 use Rattle.transcript.proofs.put_regs.Tie as tie
 
-sub-regs-line : tie.Need-sub-regs-line
-sub-regs-line c = search needs
-
-part-regs-line-start : tie.Need-part-regs-line-start
-part-regs-line-start c = search needs
-
-part-regs-line-end : tie.Need-part-regs-line-end
-part-regs-line-end c = search needs
-
-regs-line-requires : tie.Need-regs-line-requires
-regs-line-requires c κs = search needs
-
-bytes-written-requires : tie.Need-bytes-written-requires
-bytes-written-requires c κs = search needs
-
 add-result : tie.Need-add-result
 add-result c =
     let called = c .before .before .before in
@@ -30,9 +15,6 @@ add-result c =
     let short : length (regsText (start .args .regs)) ≤ 96 = omega (arith, regs-length (start .args .regs)) in
     let text = start .args .text .now in
     omega (arith, end-behind _ text _ 96 short (start .pre) (called .regs-line .ensures) (c .bytes-written .ensures))
-
-same-length : tie.Need-same-length
-same-length c = search needs
 
 returns : tie.Need-returns
 returns c =
@@ -42,14 +24,5 @@ returns c =
     extended _ _ _ 96 short (start .pre) _ (called .regs-line .ensures) (c .bytes-written .ensures)
 
 pub put-regs-spec : {M : Type 1} → statement M
-put-regs-spec =
-    tie.close
-    (tie.spec
-    sub-regs-line
-    part-regs-line-start
-    part-regs-line-end
-    regs-line-requires
-    bytes-written-requires
-    add-result
-    same-length
-    returns)
+put-regs-spec = tie.close (tie.spec (λ c. search needs) (λ c. search needs) (λ c. search needs)
+    (λ c. search needs) (λ c. search needs) add-result (λ c. search needs) returns)

@@ -7,15 +7,6 @@ use Rattle.transcript.proofs.Lengths.{stop-length}
 use Rattle.transcript.proofs.put_stop.Statement.{statement}
 use Rattle.transcript.proofs.put_stop.Tie as tie
 
-stop-line-requires : tie.Need-stop-line-requires
-stop-line-requires c κs = search needs
-
-bytes-written-requires : tie.Need-bytes-written-requires
-bytes-written-requires c κs = search needs
-
-same-length : tie.Need-same-length
-same-length c = search needs
-
 returns : tie.Need-returns
 returns c =
     let args = c .before .before .before .before .before .before .args in
@@ -24,4 +15,5 @@ returns c =
     (c .bytes-written .ensures)
 
 pub put-stop-spec : {M : Type 1} → statement M
-put-stop-spec = tie.close (tie.spec stop-line-requires bytes-written-requires same-length returns)
+put-stop-spec = tie.close (tie.spec (λ c. search needs) (λ c. search needs) (λ c. search needs)
+    returns)

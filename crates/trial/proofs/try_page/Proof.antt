@@ -11,24 +11,6 @@ use borrow.Author.Needs.{needs}
 use Rattle.trial.proofs.try_page.Statement.{statement}
 use Rattle.trial.proofs.try_page.Tie as tie
 
-slice-aggregate-run : tie.Need-slice-aggregate-run
-slice-aggregate-run c = search needs
-
-slice-aggregate-run-2 : tie.Need-slice-aggregate-run-2
-slice-aggregate-run-2 c = search needs
-
-fresh-record-requires : tie.Need-fresh-record-requires
-fresh-record-requires c κs = search needs
-
-run-requires : tie.Need-run-requires
-run-requires c κs = search needs
-
-write-requires : tie.Need-write-requires
-write-requires c κs = search needs
-
-same-length : tie.Need-same-length
-same-length c = search needs
-
 -- what a run gives is what is printed
 text-is : (page : List ℕ) (a : Answer) (ram : List ℕ) → seen a ram ≡ trialRun page
     → trialOf page ≡ transcriptOf (reasonOf (a .stop)) (a .steps) (a .after)
@@ -41,13 +23,5 @@ returns c =
     (c .before .before .write .ensures)
 
 pub try-page-spec : {M : Type 1} → statement M
-try-page-spec =
-    tie.close
-    (tie.spec
-    slice-aggregate-run
-    slice-aggregate-run-2
-    fresh-record-requires
-    run-requires
-    write-requires
-    same-length
-    returns)
+try-page-spec = tie.close (tie.spec (λ c. search needs) (λ c. search needs) (λ c. search needs)
+    (λ c. search needs) (λ c. search needs) (λ c. search needs) returns)
