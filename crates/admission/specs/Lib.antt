@@ -1,2 +1,1 @@
 pub mod RunRefusals
-pub mod Theorems

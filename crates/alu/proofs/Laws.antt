@@ -1,4 +1,4 @@
--- The upper half of a register. Assumes nothing.
+-- The upper half of a register.
 use mathlib.Core.Path.{_≡_}
 use Prim.Native.Nat.{ℕ, _+_, _*_, _^_, _<_}
 use native.Mathlib.Omega.{arith}

@@ -1,4 +1,4 @@
--- The integers of words, and as the next operation reads them from their 64 bits. Assumes nothing.
+-- The integers of words, and as the next operation reads them from their 64 bits.
 use mathlib.Core.Path.{_≡_, ap, _∙_}
 use Prim.Native.Nat.{ℕ, _-_, _*_, _/_, _%_, _^_, _<_}
 use native.Mathlib.Decide.{ℕ-discrete}
@@ -10,8 +10,8 @@ use borrow.Author.Tests.{ne-eqb}
 use mir.Syntax.{w64}
 use mir.Val.{toZ, ofZ}
 use Rattle.bits.specs.Integers.{SInt, lowWord}
-use Rattle.laws.specs.Differences.{less, minus, of-pos}
-use Rattle.laws.specs.Integers.{read}
+use Rattle.laws.proofs.Differences.{less, minus, of-pos}
+use Rattle.laws.proofs.Integers.{read}
 use Rattle.arm.specs.Bitwise.{signExtended}
 
 -- x, less 2 ^ n for its top bit

@@ -1,4 +1,4 @@
--- Products and quotients fit their 64 bits. Assumes nothing.
+-- Products and quotients fit their 64 bits.
 use Prim.Native.Nat.{ℕ, zero, suc, _+_, _*_, _/_, _^_, _≤_, _<_}
 use native.Mathlib.Nat.{le-of-lt, lt-of-le-of-lt, mul-le-mul-left, div-le-self}
 use native.Mathlib.Omega.{arith}
@@ -7,7 +7,7 @@ use lib.Pow.{shl-lt}
 use lib.Signed.{mag, quotZ}
 use mir.Syntax.{w64}
 use mir.Val.{ofZ}
-use Rattle.laws.specs.Integers.{mag-quot}
+use Rattle.laws.proofs.Integers.{mag-quot}
 
 pub product-lt : (k : ℕ) {a b : ℕ} → a < 2 ^ k → b < 2 ^ k → a * b < 2 ^ (k + k)
 product-lt k {a} h l = lt-of-le-of-lt (mul-le-mul-left a (le-of-lt l)) (shl-lt k k h)

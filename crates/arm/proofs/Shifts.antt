@@ -1,4 +1,4 @@
--- Shifts that take every bit, and the last bit out of an integer. Assumes nothing.
+-- Shifts that take every bit, and the last bit out of an integer.
 use mathlib.Core.Path.{_≡_, sym, ap, _∙_}
 use mathlib.Core.Bool.{not}
 use Prim.Native.Nat.{ℕ, zero, suc, min, _+_, _-_, _*_, _/_, _%_, _^_, _≤_, _<_}
@@ -12,7 +12,7 @@ use lib.Signed.{mag, remZ, shrZ}
 use borrow.Author.Tests.{eq-eqb, ne-eqb}
 use mir.Syntax.{w64}
 use mir.Val.{toZ, ofZ}
-use Rattle.laws.specs.Integers.{read}
+use Rattle.laws.proofs.Integers.{read}
 use Rattle.arm.specs.Shifts.{odd}
 
 -- right, past a number's k bits

@@ -1,4 +1,4 @@
--- AddWithCarry's flags: the carry by the unsigned sum, overflow by the top bits. Assumes nothing.
+-- AddWithCarry's flags: the carry by the unsigned sum, overflow by the top bits.
 use mathlib.Core.Path.{_≡_, refl, sym, ap, _∙_}
 use mathlib.Core.Bool.{Bool, true, false, not, _&&_}
 use Prim.Native.Nat.{ℕ, suc, _+_, _-_, _*_, _/_, _%_, _^_, _<_, _≤_}
@@ -9,7 +9,7 @@ use lib.IntN.{pos, subℕ, _+ℤ_}
 use borrow.Author.Tests.{lt-leb, le-leb, eq-eqb, ne-eqb}
 use mir.Val.{boolByte}
 use Rattle.bits.specs.Integers.{SInt}
-use Rattle.laws.specs.Differences.{less, more, of-pos, sum}
+use Rattle.laws.proofs.Differences.{less, more, of-pos, sum}
 use Rattle.arm.specs.Sums.{UInt, eqZ}
 use Rattle.arm.proofs.Integers.{difference}
 

@@ -1,4 +1,4 @@
--- Integers that the code keeps in 64 bits. Assumes nothing.
+-- Integers that the code keeps in 64 bits.
 use mathlib.Core.Path.{_≡_, ap, _∙_}
 use mathlib.Core.Bool.{true, false, true≢false}
 use Prim.Native.Nat.{ℕ, zero, suc, _+_, _-_, _*_, _/_, _%_, _^_, _≤_, _<_}
@@ -13,7 +13,7 @@ use mir.Syntax.{w64}
 use mir.Val.{toZ, SFits}
 use mir.ValLaws.{toZ-pos}
 use Rattle.bits.specs.Integers.{SInt, lowWord}
-use Rattle.laws.specs.Differences.{more, minus, mag-diff}
+use Rattle.laws.proofs.Differences.{more, minus, mag-diff}
 
 -- ---- SInt
 

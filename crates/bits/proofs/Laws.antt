@@ -1,5 +1,4 @@
 -- A field is a shift and a mask; fields are joined by a shift and an or. Once, over the position and the width.
--- Assumes nothing.
 use mathlib.Core.Path.{_≡_, sym, ap, _∙_}
 use Prim.Native.Nat.{ℕ, _+_, _-_, _*_, _/_, _%_, _^_, _≤_, _<_}
 use native.Mathlib.Nat.{add-zero, lt-of-lt-of-le, lt-of-le-of-lt, div-eq-of-lt, mod-eq-of-lt, zero-mod, one-mul, mul-assoc, mul-add-mod-self-right}

@@ -1,2 +1,3 @@
 pub mod Laws
 pub mod Integers
+pub mod Theorems

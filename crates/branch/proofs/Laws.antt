@@ -1,4 +1,4 @@
--- Small integers, and the bundle at a byte. Assumes nothing.
+-- Small integers, and the bundle at a byte.
 use mathlib.Core.Path.{_≡_, refl, ap, _∙_}
 use mathlib.Core.Bool.{true, false, cond, true≢false}
 use Prim.Native.Nat.{ℕ, _+_, _*_, _/_, _%_, _^_, _<_}
@@ -10,10 +10,10 @@ use borrow.Author.Tests.{ltb-true}
 use mir.Syntax.{w32, w64}
 use mir.Val.{toZ, ofZ, SFits, Fits}
 use mir.ValLaws.{toZ-pos}
-use Rattle.laws.specs.Integers.{read}
+use Rattle.laws.proofs.Integers.{read}
 use Rattle.bits.specs.Integers.{SInt}
 use Rattle.branch.specs.Branches.{bundleAt}
-use Rattle.branch.specs.Theorems.{mag-double, mag-sum}
+use Rattle.branch.proofs.Theorems.{mag-double, mag-sum}
 use Rattle.branch.specs.declared.Target.the-variants.{Bad, At}
 
 -- PC and an offset of 16 bits, and what the code reads of their sum

@@ -1,5 +1,5 @@
 -- Branch targets.
-use Prim.Native.Nat.{ℕ, _+_, _*_, _/_, _%_}
+use Prim.Native.Nat.{ℕ, _+_, _*_, _/_, _%_, _^_, _<_}
 use mathlib.Core.Bool.{cond}
 use lib.Dec.{eqb}
 use lib.IntN.{ℤ, pos, negsuc, _+ℤ_, _*ℤ_}
@@ -14,3 +14,8 @@ bundleAt (negsuc n) = Bad
 -- PC plus the doubled offset, with PC = address + 4; the address of a place is its double
 abbrev pub targetOf : ℕ → ℤ → Target
 targetOf place offset = bundleAt (pos (2 * place + 4) +ℤ (pos 2 *ℤ offset))
+
+-- the target's place is a number of 16 bits
+abbrev pub Near : Target → Type 0
+Near Bad = Unit {0}
+Near (At b) = b < 2 ^ 15

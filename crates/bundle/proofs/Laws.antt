@@ -1,31 +1,32 @@
--- The largest successor, as the code comes by it. Assumes nothing.
+-- The largest successor, as the code comes by it.
 use mathlib.Core.Path.{_≡_, sym, ap, _∙_}
 use mathlib.Core.Bool.{true, false}
 use mathlib.Core.List.{List}
 use Prim.Native.Nat.{ℕ, _+_}
 use Rattle.prefix.specs.Prefix.{goes}
-use Rattle.prefix.specs.Reach.{insert, reachOf, withSuccessor, reach-insert}
-use Rattle.prefix.specs.declared.Reach.{Reach}
-use Rattle.prefix.specs.declared.Reach.the-variants.{Bad}
+use Rattle.prefix.specs.LargestSuccessor.{insert, largestSuccessor, withSuccessor}
+use Rattle.prefix.proofs.Successors.{largest-inserted}
+use Rattle.prefix.specs.declared.LargestSuccessor.{LargestSuccessor}
+use Rattle.prefix.specs.declared.LargestSuccessor.the-variants.{Bad}
 use Rattle.page.specs.Page.{firstOf, secondOf}
 use Rattle.isa.specs.ListedEncodings.{opens32, decode16Of, decode32Of}
 use Rattle.bundle.specs.Successors.{wide, narrow, successorsOf}
 
-pub one-more : (r : Reach) (bs : List ℕ) (s : ℕ) → r ≡ reachOf (goes bs) → withSuccessor r s ≡ reachOf (goes (insert s bs))
-one-more r bs s e = ap (λ (q : Reach). withSuccessor q s) e ∙ sym (reach-insert s bs)
+pub one-more : (r : LargestSuccessor) (bs : List ℕ) (s : ℕ) → r ≡ largestSuccessor (goes bs) → withSuccessor r s ≡ largestSuccessor (goes (insert s bs))
+one-more r bs s e = ap (λ (q : LargestSuccessor). withSuccessor q s) e ∙ sym (largest-inserted s bs)
 
 -- ---- bundle k by its halfwords
 
 module _ (page : List ℕ) (k first second : ℕ) (e : first ≡ firstOf page k) (f : second ≡ secondOf page k) where
-  pub wide-case : opens32 first ≡ true → reachOf (wide (decode32Of first second) (k + 1)) ≡ reachOf (successorsOf page k)
+  pub wide-case : opens32 first ≡ true → largestSuccessor (wide (decode32Of first second) (k + 1)) ≡ largestSuccessor (successorsOf page k)
   unfolding successorsOf
   wide-case o = rw (← e, ← f, o)
 
-  pub late-opening : opens32 first ≡ false → opens32 second ≡ true → Bad ≡ reachOf (successorsOf page k)
+  pub late-opening : opens32 first ≡ false → opens32 second ≡ true → Bad ≡ largestSuccessor (successorsOf page k)
   unfolding successorsOf
   late-opening o p = rw (← e, ← f, o, p)
 
   pub narrow-case : opens32 first ≡ false → opens32 second ≡ false
-      → reachOf (narrow page k (decode16Of first) (decode16Of second)) ≡ reachOf (successorsOf page k)
+      → largestSuccessor (narrow page k (decode16Of first) (decode16Of second)) ≡ largestSuccessor (successorsOf page k)
   unfolding successorsOf
   narrow-case o p = rw (← e, ← f, o, p)

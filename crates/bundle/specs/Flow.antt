@@ -1,6 +1,6 @@
--- How the flow goes on at an instruction, by its encoding and its place.
+-- Terminators, and how the flow goes on at an instruction, by its encoding and its place.
 use Prim.Native.Nat.{ℕ}
-use mathlib.Core.Bool.{Bool, true, false}
+use mathlib.Core.Bool.{Bool, true, false, cond}
 use mathlib.Core.List.{List}
 use lib.IntN.{pos}
 use Rattle.bits.specs.Fields.{bits}
@@ -15,37 +15,67 @@ use Rattle.service.specs.Services.{serviceOf, endingOf}
 use Rattle.service.specs.declared.Ending.{Ending}
 use Rattle.service.specs.declared.Ending.the-variants.{GoesOn, Exit, LastExit}
 use Rattle.service.specs.declared.Ending.the-variants as ending
+use Rattle.bundle.specs.declared.Jump.{Jump}
+use Rattle.bundle.specs.declared.Jump.the-variants.{NoJump, JumpTo}
+use Rattle.bundle.specs.declared.Jump.the-variants as jump
 use Rattle.bundle.specs.declared.Flow.{Flow}
 use Rattle.bundle.specs.declared.Flow.the-variants.{Bad, Next, NextOr, To, Stop}
 
--- a branch that may be taken: to the next or to its target; one that has no target is bad
-abbrev pub orNext : Target → Flow
-orNext target.Bad = Bad
-orNext (At b) = NextOr b
+-- ---- terminators
 
--- b
-abbrev pub always : Target → Flow
-always target.Bad = Bad
-always (At b) = To b
+abbrev pub endsFlow : Ending → Bool
+endsFlow GoesOn = false
+endsFlow Exit = false
+endsFlow LastExit = true
+endsFlow ending.Bad = false
 
--- a service goes on to the next unless it is a terminator
-abbrev pub serviceFlow : Ending → Flow
-serviceFlow GoesOn = Next
-serviceFlow Exit = Next
-serviceFlow LastExit = Stop
-serviceFlow ending.Bad = Bad
+-- the build paper's terminators: b and the services so marked
+abbrev pub terminator : List ℕ → Instruction → Bool
+terminator page (Data operation) = false
+terminator page (Memory access) = false
+terminator page (Cbz imm6 n) = false
+terminator page (Cbnz imm6 n) = false
+terminator page (Bcc condition imm8) = false
+terminator page (B imm11) = true
+terminator page (Service n) = endsFlow (endingOf (serviceOf page n))
+terminator page Unlisted = false
+
+-- ---- where it may go beside what stands behind it
+
+-- a branch whose target is bad is bad itself
+abbrev pub jumpTo : Target → Jump
+jumpTo target.Bad = jump.Bad
+jumpTo (At b) = JumpTo b
+
+-- a service has no target
+abbrev pub serviceJump : Ending → Jump
+serviceJump GoesOn = NoJump
+serviceJump Exit = NoJump
+serviceJump LastExit = NoJump
+serviceJump ending.Bad = jump.Bad
 
 -- offsets are signed for b and bcc, unsigned for cbz and cbnz
-unfoldable pub flowOf : List ℕ → ℕ → Instruction → Flow
-flowOf page place (Data operation) = Next
-flowOf page place (Memory access) = Next
-flowOf page place (Cbz imm6 n) = orNext (targetOf place (pos imm6))
-flowOf page place (Cbnz imm6 n) = orNext (targetOf place (pos imm6))
-flowOf page place (Bcc condition imm8) = orNext (targetOf place (SInt 8 imm8))
-flowOf page place (B imm11) = always (targetOf place (SInt 11 (bits imm11 10 0)))
-flowOf page place (Service n) = serviceFlow (endingOf (serviceOf page n))
-flowOf page place Unlisted = Bad
+abbrev pub jumpOf : List ℕ → ℕ → Instruction → Jump
+jumpOf page place (Data operation) = NoJump
+jumpOf page place (Memory access) = NoJump
+jumpOf page place (Cbz imm6 n) = jumpTo (targetOf place (pos imm6))
+jumpOf page place (Cbnz imm6 n) = jumpTo (targetOf place (pos imm6))
+jumpOf page place (Bcc condition imm8) = jumpTo (targetOf place (SInt 8 imm8))
+jumpOf page place (B imm11) = jumpTo (targetOf place (SInt 11 (bits imm11 10 0)))
+jumpOf page place (Service n) = serviceJump (endingOf (serviceOf page n))
+jumpOf page place Unlisted = jump.Bad
 
+-- ---- the flow: it goes on to the next unless a terminator stops it
+
+abbrev pub flowBy : Bool → Jump → Flow
+flowBy terminates jump.Bad = Bad
+flowBy terminates NoJump = cond terminates Stop Next
+flowBy terminates (JumpTo b) = cond terminates (To b) (NextOr b)
+
+unfoldable pub flowOf : List ℕ → ℕ → Instruction → Flow
+flowOf page place i = flowBy (terminator page i) (jumpOf page place i)
+
+-- the build paper's "listed": it matches a listed encoding
 abbrev pub listed : Instruction → Bool
 listed (Data operation) = true
 listed (Memory access) = true

@@ -1,4 +1,3 @@
 pub mod Flow
 pub mod Successors
 pub mod Reader
-pub mod Theorems

@@ -4,8 +4,8 @@ use mathlib.Core.List.{List, [], _∷_}
 use lib.Dec.{leb}
 use Rattle.refusal.specs.Refusals.{Rule, rule, verdict, whenAccepted}
 use Rattle.refusal.specs.declared.Refusal.the-variants.{NoSuchBundle}
-use Rattle.prefix.specs.Reach.{reachOf}
-use Rattle.prefix.specs.declared.Reach.the-variants.{Bad}
+use Rattle.prefix.specs.LargestSuccessor.{largestSuccessor}
+use Rattle.prefix.specs.declared.LargestSuccessor.the-variants.{Bad}
 use Rattle.page.specs.Page.{pageRule, bundlesIn}
 use Rattle.bundle.specs.Successors.{successorsOf}
 use Rattle.bundle.specs.declared.Read.{Read}
@@ -17,5 +17,5 @@ readRules page k = pageRule page ∷ rule (leb (bundlesIn page) k) NoSuchBundle 
 abbrev pub readBundle : List ℕ → ℕ → Read
 readBundle page k = record {
   verdict = verdict (readRules page k);
-  reach = whenAccepted (verdict (readRules page k)) (reachOf (successorsOf page k)) Bad;
+  largest = whenAccepted (verdict (readRules page k)) (largestSuccessor (successorsOf page k)) Bad;
 }

@@ -1,11 +1,10 @@
 -- The successors of a bundle: bad, or at most three, ascending and without repeats.
-use Prim.Native.Nat.{ℕ, _+_, _*_}
+use Prim.Native.Nat.{ℕ, _+_, _*_, _≤_}
 use mathlib.Core.Bool.{Bool, cond}
 use mathlib.Core.List.{List, [], _∷_}
-use mathlib.Core.Path.{_≡_}
+use lib.ListN.{length}
 use Rattle.prefix.specs.Prefix.{Successors, bad, goes}
-use Rattle.prefix.specs.Reach.{insert, reachOf}
-use Rattle.prefix.specs.declared.Reach.{Reach}
+use Rattle.prefix.specs.LargestSuccessor.{insert, Ascending}
 use Rattle.page.specs.Page.{firstOf, secondOf}
 use Rattle.isa.specs.ListedEncodings.{opens32, decode16Of, decode32Of}
 use Rattle.isa.specs.declared.Instruction.{Instruction}
@@ -43,6 +42,7 @@ successorsOf page k =
     cond (opens32 (firstOf page k)) (wide (decode32Of (firstOf page k) (secondOf page k)) (k + 1))
     (cond (opens32 (secondOf page k)) bad (narrow page k (decode16Of (firstOf page k)) (decode16Of (secondOf page k))))
 
--- what the largest successor comes to behind a first half whose targets come to r
-abbrev pub SecondReach : Reach → Flow → ℕ → Reach → Type 0
-SecondReach r second next q = (bs : List ℕ) → r ≡ reachOf (goes bs) → q ≡ reachOf (afterSecond bs second next)
+-- at most three, ascending and without repeats
+abbrev pub Few : Successors → Type 0
+Few bad = Unit {0}
+Few (goes ss) = (length ss ≤ 3) × Ascending ss

@@ -1,19 +1,28 @@
 // The successors of a bundle, and the reader.
 ghost use mathlib.Core.Path.{_≡_};
-ghost use Prim.Native.Nat.{_<_};
-ghost use Rattle.prefix.specs.Reach.{reachOf};
+ghost use mathlib.Core.List.{List};
+ghost use Prim.Native.Nat.{ℕ, _<_};
+ghost use Rattle.prefix.specs.Prefix.{goes};
+ghost use Rattle.prefix.specs.LargestSuccessor.{largestSuccessor};
 ghost use Rattle.service.specs.Services.{endingOf};
-ghost use Rattle.bundle.specs.Flow.{orNext, always, serviceFlow, flowOf};
+ghost use Rattle.bundle.specs.Flow.{jumpTo, serviceJump, jumpOf, flowBy, flowOf};
 ghost use Rattle.bundle.specs.Flow as flow;
-ghost use Rattle.bundle.specs.Successors.{SecondReach, afterFirst, wide, successorsOf};
+ghost use Rattle.bundle.specs.Successors.{afterSecond, afterFirst, wide, successorsOf};
 ghost use Rattle.bundle.specs.Reader.{readBundle};
 use branch::Target;
 use isa::Instruction;
-use prefix::Reach;
+use prefix::LargestSuccessor;
 use refusal::Refusal;
 use refusal::Verdict;
 use service::Ending;
 use service::Service;
+
+// Where an instruction may go beside what stands behind it: it is bad; nowhere; to a bundle.
+pub enum Jump {
+    Bad,
+    NoJump,
+    JumpTo(u32),
+}
 
 // How the flow goes on at an instruction: not at all, since it is bad; to the next; to the next or a bundle; to a
 // bundle only; nowhere in the page.
@@ -28,37 +37,86 @@ pub enum Flow {
 // What the reader answers.
 pub struct Read {
     pub verdict: Verdict,
-    pub reach: Reach,
+    pub largest: LargestSuccessor,
 }
 
-// A branch that may be taken.
-fn or_next(t: Target) -> Flow
-    ensures { λ r. ⌜ r ≡ orNext t ⌝ }
+fn ends_flow(e: Ending) -> bool
+    ensures { λ t. ⌜ t ≡ flow.endsFlow e ⌝ }
 {
-    match t {
-        Target::Bad => Flow::Bad,
-        Target::At(b) => Flow::NextOr(b),
+    match e {
+        Ending::GoesOn => false,
+        Ending::Exit => false,
+        Ending::LastExit => true,
+        Ending::Bad => false,
     }
 }
 
-// A branch that is always taken.
-fn taken(t: Target) -> Flow
-    ensures { λ r. ⌜ r ≡ always t ⌝ }
+// Terminators are b and the services so marked.
+pub fn is_terminator(page: &[u8], i: Instruction) -> bool
+    ensures { λ t. ⌜ t ≡ flow.terminator (now (page .entry)) i ⌝ }
 {
-    match t {
-        Target::Bad => Flow::Bad,
-        Target::At(b) => Flow::To(b),
+    match i {
+        Instruction::Data(_) => false,
+        Instruction::Memory(_) => false,
+        Instruction::Cbz(_, _) => false,
+        Instruction::Cbnz(_, _) => false,
+        Instruction::Bcc(_, _) => false,
+        Instruction::B(_) => true,
+        Instruction::Service(n) => ends_flow(service::ending_of(service::service_of(page, n))),
+        Instruction::Unlisted => false,
     }
 }
 
-fn of_service(s: Service) -> Flow
-    ensures { λ r. ⌜ r ≡ serviceFlow (endingOf s) ⌝ }
+// To a branch's target.
+fn jump_to(t: Target) -> Jump
+    ensures { λ r. ⌜ r ≡ jumpTo t ⌝ }
+{
+    match t {
+        Target::Bad => Jump::Bad,
+        Target::At(b) => Jump::JumpTo(b),
+    }
+}
+
+fn service_jump(s: Service) -> Jump
+    ensures { λ r. ⌜ r ≡ serviceJump (endingOf s) ⌝ }
 {
     match service::ending_of(s) {
-        Ending::GoesOn => Flow::Next,
-        Ending::Exit => Flow::Next,
-        Ending::LastExit => Flow::Stop,
-        Ending::Bad => Flow::Bad,
+        Ending::GoesOn => Jump::NoJump,
+        Ending::Exit => Jump::NoJump,
+        Ending::LastExit => Jump::NoJump,
+        Ending::Bad => Jump::Bad,
+    }
+}
+
+fn jump_of(page: &[u8], place: u16, i: Instruction) -> Jump
+    ensures { λ r. ⌜ r ≡ jumpOf (now (page .entry)) place i ⌝ }
+{
+    match i {
+        Instruction::Data(_) => Jump::NoJump,
+        Instruction::Memory(_) => Jump::NoJump,
+        Instruction::Cbz(imm6, _) => jump_to(branch::compare_target(place, imm6)),
+        Instruction::Cbnz(imm6, _) => jump_to(branch::compare_target(place, imm6)),
+        Instruction::Bcc(_, imm8) => jump_to(branch::conditional_target(place, imm8)),
+        Instruction::B(imm11) => jump_to(branch::branch_target(place, imm11)),
+        Instruction::Service(n) => service_jump(service::service_of(page, n)),
+        Instruction::Unlisted => Jump::Bad,
+    }
+}
+
+// The flow goes on to the next unless a terminator stops it.
+fn flow_by(terminates: bool, jump: Jump) -> Flow
+    ensures { λ r. ⌜ r ≡ flowBy terminates jump ⌝ }
+{
+    match jump {
+        Jump::Bad => Flow::Bad,
+        Jump::NoJump => { if terminates { Flow::Stop } else { Flow::Next } }
+        Jump::JumpTo(b) => {
+            if terminates {
+                Flow::To(b)
+            } else {
+                Flow::NextOr(b)
+            }
+        }
     }
 }
 
@@ -66,16 +124,7 @@ fn of_service(s: Service) -> Flow
 pub fn flow_of(page: &[u8], place: u16, i: Instruction) -> Flow
     ensures { λ r. ⌜ r ≡ flowOf (now (page .entry)) place i ⌝ }
 {
-    match i {
-        Instruction::Data(_) => Flow::Next,
-        Instruction::Memory(_) => Flow::Next,
-        Instruction::Cbz(imm6, _) => or_next(branch::compare_target(place, imm6)),
-        Instruction::Cbnz(imm6, _) => or_next(branch::compare_target(place, imm6)),
-        Instruction::Bcc(_, imm8) => or_next(branch::conditional_target(place, imm8)),
-        Instruction::B(imm11) => taken(branch::branch_target(place, imm11)),
-        Instruction::Service(n) => of_service(service::service_of(page, n)),
-        Instruction::Unlisted => Flow::Bad,
-    }
+    flow_by(is_terminator(page, i), jump_of(page, place, i))
 }
 
 // The instruction matches a listed encoding.
@@ -94,12 +143,12 @@ pub fn is_listed(i: Instruction) -> bool
     }
 }
 
-// The second half, behind a first one whose successors come to r.
-fn after_second(r: Reach, second: Flow, next: u32) -> Reach
-    ensures { λ q. ⌜ SecondReach r second next q ⌝ }
+// The second half, behind a first one whose targets have the largest successor r.
+fn after_second(r: LargestSuccessor, second: Flow, next: u32) -> LargestSuccessor
+    ensures { λ q. ⌜ ((bs : List ℕ) → r ≡ largestSuccessor (goes bs) → q ≡ largestSuccessor (afterSecond bs second next)) ⌝ }
 {
     match second {
-        Flow::Bad => Reach::Bad,
+        Flow::Bad => LargestSuccessor::Bad,
         Flow::Stop => r,
         Flow::To(b) => prefix::with_successor(r, b),
         Flow::Next => prefix::with_successor(r, next),
@@ -108,38 +157,44 @@ fn after_second(r: Reach, second: Flow, next: u32) -> Reach
 }
 
 // Both halves. Behind a terminator the second must only be listed.
-fn after_first(first: Flow, listed: bool, second: Flow, next: u32) -> Reach
-    ensures { λ r. ⌜ r ≡ reachOf (afterFirst first listed second next) ⌝ }
+fn after_first(first: Flow, listed: bool, second: Flow, next: u32) -> LargestSuccessor
+    ensures { λ r. ⌜ r ≡ largestSuccessor (afterFirst first listed second next) ⌝ }
 {
     match first {
-        Flow::Bad => Reach::Bad,
-        Flow::Stop => { if listed { Reach::Nothing } else { Reach::Bad } }
-        Flow::To(b) => {
+        Flow::Bad => LargestSuccessor::Bad,
+        Flow::Stop => {
             if listed {
-                Reach::Largest(b)
+                LargestSuccessor::Nothing
             } else {
-                Reach::Bad
+                LargestSuccessor::Bad
             }
         }
-        Flow::Next => after_second(Reach::Nothing, second, next),
-        Flow::NextOr(b) => after_second(Reach::Largest(b), second, next),
+        Flow::To(b) => {
+            if listed {
+                LargestSuccessor::Largest(b)
+            } else {
+                LargestSuccessor::Bad
+            }
+        }
+        Flow::Next => after_second(LargestSuccessor::Nothing, second, next),
+        Flow::NextOr(b) => after_second(LargestSuccessor::Largest(b), second, next),
     }
 }
 
 // A bundle of one 32-bit instruction.
-fn of_wide(i: Instruction, next: u32) -> Reach
-    ensures { λ r. ⌜ r ≡ reachOf (wide i next) ⌝ }
+fn of_wide(i: Instruction, next: u32) -> LargestSuccessor
+    ensures { λ r. ⌜ r ≡ largestSuccessor (wide i next) ⌝ }
 {
     if is_listed(i) {
-        Reach::Largest(next)
+        LargestSuccessor::Largest(next)
     } else {
-        Reach::Bad
+        LargestSuccessor::Bad
     }
 }
 
-fn reach_at(page: &[u8], k: u32) -> Reach
+fn largest_at(page: &[u8], k: u32) -> LargestSuccessor
     requires { ⌜ k < 64 ⌝ }
-    ensures { λ r. ⌜ r ≡ reachOf (successorsOf (now (page .entry)) k) ⌝ }
+    ensures { λ r. ⌜ r ≡ largestSuccessor (successorsOf (now (page .entry)) k) ⌝ }
 {
     let first = page::halfword(page, 2 * k);
     let second = page::halfword(page, 2 * k + 1);
@@ -147,7 +202,7 @@ fn reach_at(page: &[u8], k: u32) -> Reach
         return of_wide(isa32::decode32(first, second), k + 1);
     }
     if isa::opens_32(second) {
-        return Reach::Bad;
+        return LargestSuccessor::Bad;
     }
     let place = (2 * k) as u16;
     let i = isa16::decode16(first);
@@ -167,17 +222,17 @@ pub fn read_bundle(page: &[u8], k: u32) -> Read
     if !page::fits(page) {
         return Read {
             verdict: Verdict::Refused(Refusal::PageLength),
-            reach: Reach::Bad,
+            largest: LargestSuccessor::Bad,
         };
     }
     if (k as usize) >= page.len() / 4 {
         return Read {
             verdict: Verdict::Refused(Refusal::NoSuchBundle),
-            reach: Reach::Bad,
+            largest: LargestSuccessor::Bad,
         };
     }
     Read {
         verdict: Verdict::Accepted,
-        reach: reach_at(page, k),
+        largest: largest_at(page, k),
     }
 }

@@ -1,22 +1,13 @@
--- The build paper's starred examples, together under one claim, by computation. Assumes nothing.
+-- The build paper's starred examples, together under one claim, by computation.
 use Prim.Native.Nat.{ℕ}
-use mathlib.Core.Path.{_≡_, refl}
+use mathlib.Core.Path.{_≡_}
 use mathlib.Core.Bool.{true, false}
 use mathlib.Core.List.{List, [], _∷_}
-use Rattle.prefix.specs.Prefix.{allWithin, greatestClosed}
-use Rattle.isa.specs.Patterns.{matches}
-use Rattle.isa.specs.ListedEncodings.{opens32, decodeBy}
-use Rattle.page.specs.Page.{halfwordAt, wordAt, pageFits}
-use Rattle.service.specs.Services.{serviceOf, byLiteral, literalOf, callOf, syscallOf, addressOperationOf}
-use Rattle.branch.specs.Branches.{bundleAt}
-use Rattle.bundle.specs.Flow.{flowOf}
-use Rattle.bundle.specs.Successors.{successorsOf}
 use Rattle.count.specs.Count.{countPage}
 use Rattle.state.specs.Record.{freshRecord, withRegister, withFlags, withPlace}
 use Rattle.state.specs.declared.Record.{Record}
 use Rattle.plain.specs.PlainMachine.{goesOn}
-use Rattle.place.specs.Places.{standsIn, instructionAt, following}
-use Rattle.instruction.specs.Instructions.{endAt, branchTo, branchIf, effectOf, instructionOf}
+use Rattle.instruction.specs.Instructions.{instructionOf}
 use Rattle.claims.specs.Pages.{pageOf}
 
 -- the count that the code answers for a page of these halfwords
@@ -53,21 +44,3 @@ pub record Starred : Type 0 where
   -- cmp of 0x80000000 with 1: N0 Z0 C1 V1; BLT taken
   pub compare : (ram : List ℕ) → instructionOf comparePage [] compared ram ≡ goesOn flagsSet ram
   pub blt-taken : (ram : List ℕ) → instructionOf comparePage [] flagsSet ram ≡ goesOn branched ram
-
-pub starred : Starred
-unfolding greatestClosed allWithin successorsOf flowOf bundleAt serviceOf byLiteral literalOf callOf syscallOf addressOperationOf halfwordAt wordAt pageFits opens32 decodeBy matches instructionOf instructionAt standsIn following effectOf endAt branchIf branchTo withRegister withFlags withPlace
-starred = record {
-  empty = refl;
-  returns = refl;
-  falls-off = refl;
-  loops = refl;
-  into-a-bundle = refl;
-  back-from-second = refl;
-  before-page = refl;
-  over-a-bad-bundle = refl;
-  store-by-r9 = refl;
-  store-by-r8 = refl;
-  tail-call = refl;
-  compare = λ ram. refl;
-  blt-taken = λ ram. refl;
-}

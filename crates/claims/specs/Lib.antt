@@ -2,5 +2,3 @@ pub mod Pages
 pub mod Demand2
 pub mod Examples
 pub mod Demand3
-pub mod Contracts
-pub mod Admitted

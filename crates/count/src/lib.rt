@@ -23,8 +23,8 @@ pub fn count(page: &[u8]) -> Counted
     while 0 < k {
         k -= 1;
         let read = bundle::read_bundle(page, k);
-        let reach = read.reach;
-        bound = prefix::bound_after(bound, reach, k);
+        let largest = read.largest;
+        bound = prefix::bound_after(bound, largest, k);
     }
     Counted {
         verdict: Verdict::Accepted,

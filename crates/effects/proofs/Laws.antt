@@ -1,4 +1,4 @@
--- What the code gives back, as the outcome that it stands for. Assumes nothing.
+-- What the code gives back, as the outcome that it stands for.
 use Prim.Native.Nat.{ℕ, _+_, _-_, _*_}
 use mathlib.Core.Bool.{Bool, true, false, cond}
 use mathlib.Core.List.{List}

@@ -1,2 +1,1 @@
 pub mod LittleEndian
-pub mod Theorems

@@ -1,4 +1,1 @@
 pub mod Storing
-pub mod Ranges
-pub mod Verdicts
-pub mod Theorems

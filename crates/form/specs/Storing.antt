@@ -10,7 +10,7 @@ use Rattle.refusal.specs.declared.Verdict.{Verdict}
 use Rattle.state.specs.Record.{freshRecord}
 use Rattle.state.specs.declared.Record.{Record}
 use Rattle.layout.specs.StoredForm.{storedForm, decode, valuesInRange, valuesOf, recordBytes, recordIn}
-use Rattle.form.specs.declared.Loaded.{Loaded}
+use Rattle.form.specs.declared.ReadBack.{ReadBack}
 
 abbrev pub storeRules : Record → ℕ → List Rule
 storeRules r room = rule (not (eqb room 44)) FormLength ∷ rule (not (valuesInRange (valuesOf r))) FormRange ∷ []
@@ -26,7 +26,7 @@ abbrev pub loadRules : List ℕ → List Rule
 loadRules bytes = rule (not (eqb (length bytes) 44)) FormLength ∷ rule (not (valuesInRange (decode storedForm bytes))) FormRange ∷ []
 
 -- refused, the fresh record
-abbrev pub loadRecord : List ℕ → Loaded
+abbrev pub loadRecord : List ℕ → ReadBack
 loadRecord bytes = record {
   verdict = verdict (loadRules bytes);
   loaded = whenAccepted (verdict (loadRules bytes)) (recordIn bytes) freshRecord;

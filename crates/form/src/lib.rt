@@ -8,7 +8,7 @@ use refusal::Verdict;
 use state::Record;
 
 // What reading back answers.
-pub struct Loaded {
+pub struct ReadBack {
     pub verdict: Verdict,
     pub loaded: Record,
 }
@@ -58,22 +58,22 @@ pub fn store(r: Record, room: &mut [u8]) -> Verdict
 }
 
 // Reads a record back.
-pub fn load(bytes: &[u8]) -> Loaded
+pub fn load(bytes: &[u8]) -> ReadBack
     ensures { λ r. ⌜ r ≡ loadRecord (now (bytes .entry)) ⌝ }
 {
     if bytes.len() != 44 {
-        return Loaded {
+        return ReadBack {
             verdict: Verdict::Refused(Refusal::FormLength),
             loaded: state::fresh_record(),
         };
     }
     if !in_range(layout::values_in(bytes)) {
-        return Loaded {
+        return ReadBack {
             verdict: Verdict::Refused(Refusal::FormRange),
             loaded: state::fresh_record(),
         };
     }
-    Loaded {
+    ReadBack {
         verdict: Verdict::Accepted,
         loaded: layout::record_in(bytes),
     }

@@ -1,4 +1,4 @@
--- A run's answer as it crosses. Assumes nothing.
+-- A run's answer as it crosses.
 use Prim.Native.Nat.{ℕ}
 use mathlib.Core.Bool.{true}
 use mathlib.Core.List.{List}
@@ -10,7 +10,7 @@ use Rattle.stop.specs.Stops.{reasonOf}
 use Rattle.machine.specs.Runs.{Gives}
 use Rattle.machine.specs.declared.Answer as machine
 use Rattle.layout.specs.StoredForm.{recordIn, roomWith, holdsRecord}
-use Rattle.layout.specs.Theorems.{held}
+use Rattle.layout.proofs.Theorems.{held}
 use Rattle.host.specs.HostRuns.{stopNumbers, hostRun}
 use Rattle.host.specs.declared.StopNumbers.{StopNumbers}
 

@@ -4,18 +4,18 @@ use mathlib.Core.Bool.{cond}
 use mathlib.Core.List.{List}
 use lib.Dec.{eqb}
 use lib.ListN.{length}
-use Rattle.refusal.specs.Refusals.{numberOf}
+use Rattle.refusal.specs.Refusals.{refusalNumber}
 use Rattle.refusal.specs.declared.Verdict.{Verdict}
 use Rattle.refusal.specs.declared.Verdict.the-variants.{Accepted, Refused}
-use Rattle.prefix.specs.declared.Reach.{Reach}
-use Rattle.prefix.specs.declared.Reach.the-variants.{Bad, Nothing, Largest}
+use Rattle.prefix.specs.declared.LargestSuccessor.{LargestSuccessor}
+use Rattle.prefix.specs.declared.LargestSuccessor.the-variants.{Bad, Nothing, Largest}
 use Rattle.layout.specs.StoredForm.{recordIn, holdsRecord}
 use Rattle.form.specs.Storing.{storeVerdict, roomAfter}
 
 -- 0 for what is accepted, else the refusal's number
 abbrev pub codeOf : Verdict → ℕ
 codeOf Accepted = 0
-codeOf (Refused r) = numberOf r
+codeOf (Refused r) = refusalNumber r
 
 -- a number of the host's own, which no refusal has: the bytes hold no record, or the room isn't 44 bytes long. It stands before
 -- all refusals, since without a record there is no call
@@ -24,15 +24,15 @@ noRecord = 255
 
 -- ---- the reader's answer: 0 bad, 1 no successor, 2 a largest one
 
-abbrev pub reachKind : Reach → ℕ
-reachKind Bad = 0
-reachKind Nothing = 1
-reachKind (Largest s) = 2
+abbrev pub largestKind : LargestSuccessor → ℕ
+largestKind Bad = 0
+largestKind Nothing = 1
+largestKind (Largest s) = 2
 
-abbrev pub reachLargest : Reach → ℕ
-reachLargest Bad = 0
-reachLargest Nothing = 0
-reachLargest (Largest s) = s
+abbrev pub largestNumber : LargestSuccessor → ℕ
+largestNumber Bad = 0
+largestNumber Nothing = 0
+largestNumber (Largest s) = s
 
 -- ---- records
 

@@ -10,9 +10,9 @@ ghost use Rattle.count.specs.Count.{countPage};
 ghost use Rattle.bundle.specs.Reader.{readBundle};
 ghost use Rattle.layout.specs.StoredForm.{kindOf, offsetOf, roomWith};
 ghost use Rattle.form.specs.Storing.{loadRecord};
-ghost use Rattle.host.specs.Crossing.{codeOf, noRecord, reachKind, reachLargest, roomCode, storeCode, storedRoom};
+ghost use Rattle.host.specs.Crossing.{codeOf, noRecord, largestKind, largestNumber, roomCode, storeCode, storedRoom};
 ghost use Rattle.host.specs.HostRuns.{stopNumbers, answered, hostRun};
-use prefix::Reach;
+use prefix::LargestSuccessor;
 use refusal::Verdict;
 use stop::Stop;
 
@@ -45,23 +45,23 @@ fn room_code(written: bool, code: u32) -> u32
     if written { code } else { NO_RECORD }
 }
 
-fn reach_kind(reach: Reach) -> u32
-    ensures { λ kind. ⌜ kind ≡ reachKind reach ⌝ }
+fn largest_kind(successor: LargestSuccessor) -> u32
+    ensures { λ kind. ⌜ kind ≡ largestKind successor ⌝ }
 {
-    match reach {
-        Reach::Bad => 0,
-        Reach::Nothing => 1,
-        Reach::Largest(_) => 2,
+    match successor {
+        LargestSuccessor::Bad => 0,
+        LargestSuccessor::Nothing => 1,
+        LargestSuccessor::Largest(_) => 2,
     }
 }
 
-fn reach_largest(reach: Reach) -> u32
-    ensures { λ largest. ⌜ largest ≡ reachLargest reach ⌝ }
+fn largest_number(successor: LargestSuccessor) -> u32
+    ensures { λ largest. ⌜ largest ≡ largestNumber successor ⌝ }
 {
-    match reach {
-        Reach::Bad => 0,
-        Reach::Nothing => 0,
-        Reach::Largest(s) => s,
+    match successor {
+        LargestSuccessor::Bad => 0,
+        LargestSuccessor::Nothing => 0,
+        LargestSuccessor::Largest(s) => s,
     }
 }
 
@@ -85,7 +85,7 @@ fn numbers_of(stop: Stop) -> StopNumbers
         Stop::Service(n) => stop_numbers(0, 1, n as u32, 0),
         Stop::ServiceBy(n, literal) => stop_numbers(0, 2, n as u32, literal),
         Stop::Fault(fault) => stop_numbers(0, 3, memory::fault_number(fault) as u32, 0),
-        Stop::Mark => stop_numbers(0, 4, 0, 0),
+        Stop::Unlisted => stop_numbers(0, 4, 0, 0),
         Stop::Refused(why) => stop_numbers(
             refusal::number(why) as u32,
             5,
@@ -112,14 +112,14 @@ pub extern "C" fn mb_count(page: &[u8], count: &mut u32) -> u32
 #[no_mangle]
 pub extern "C" fn mb_read_bundle(page: &[u8], k: u32, kind: &mut u32, largest: &mut u32) -> u32
     ensures { λ code. ⌜ (code ≡ codeOf (readBundle (now (page .entry)) k .verdict))
-        × (now (kind .exit) ≡ reachKind (readBundle (now (page .entry)) k .reach))
-        × (now (largest .exit) ≡ reachLargest (readBundle (now (page .entry)) k .reach)) ⌝ }
+        × (now (kind .exit) ≡ largestKind (readBundle (now (page .entry)) k .largest))
+        × (now (largest .exit) ≡ largestNumber (readBundle (now (page .entry)) k .largest)) ⌝ }
 {
     let read = bundle::read_bundle(page, k);
     let verdict = read.verdict;
-    let reach = read.reach;
-    *kind = reach_kind(reach);
-    *largest = reach_largest(reach);
+    let successor = read.largest;
+    *kind = largest_kind(successor);
+    *largest = largest_number(successor);
     code_of(verdict)
 }
 

@@ -1,12 +1,12 @@
--- Fields of a halfword, as the code takes them. Assumes nothing.
+-- Fields of a halfword, as the code takes them.
 use mathlib.Core.Path.{_≡_, refl}
 use mathlib.Core.Bool.{Bool·beq, _||_}
 use mathlib.Core.List.{[], _∷_}
 use Prim.Native.Nat.{ℕ, _/_, _%_, _^_}
 use native.Mathlib.Omega.{arith}
 use lib.Dec.{leb}
-use Rattle.laws.specs.Tests.{equal-tests}
-use Rattle.laws.specs.Runs.{run}
+use Rattle.laws.proofs.Tests.{equal-tests}
+use Rattle.laws.proofs.Runs.{run}
 use Rattle.isa.specs.Patterns.{O, I, matches}
 use Rattle.isa.specs.ListedEncodings.{opens32}
 

@@ -1,3 +1,3 @@
 pub mod Patterns
 pub mod ListedEncodings
-pub mod Theorems
+pub mod Rows

@@ -1,4 +1,4 @@
--- What the class of a halfword tells of its row, and what the top byte tells of its class. Assumes nothing.
+-- What the class of a halfword tells of its row, and what the top byte tells of its class.
 use mathlib.Core.Path.{_≡_, refl, sym, ap, _∙_}
 use mathlib.Core.Bool.{Bool, true, false, not, _&&_, _||_, cond, true≢false, Bool·beq}
 use mathlib.Core.List.{List, [], _∷_}
@@ -11,11 +11,12 @@ use borrow.Author.Tests.{eqb-true, ltb-true}
 use Rattle.isa.specs.Patterns.{matches}
 use Rattle.isa.specs.ListedEncodings.{Row, row, decodeBy, lines16, listed16, decode16Of}
 use Rattle.isa16.specs.Classes.{begins, classOf}
-use Rattle.laws.specs.Tests.{both, either, equal-tests}
-use Rattle.isa.specs.Theorems.{found, apart16, patternAt, meaningAt}
+use Rattle.laws.proofs.Tests.{both, either, equal-tests}
+use Rattle.isa.proofs.Theorems.{found, apart16, meaningAt}
+use Rattle.isa.specs.Rows.{patternAt}
 use Rattle.isa.specs.declared.Instruction.{Instruction}
 use Rattle.isa.specs.declared.Instruction.the-variants.{Unlisted}
-use Rattle.laws.specs.Runs.{every, run, NoneOf, isIn, no-key}
+use Rattle.laws.proofs.Runs.{every, run, NoneOf, isIn, no-key}
 use Rattle.isa16.proofs.Patterns.{free, prefix}
 use Rattle.isa16.proofs.Lines.{lineAt, in-line, line-begins}
 

@@ -1,4 +1,4 @@
--- The line of a 16-bit row is told by the top byte. Assumes nothing.
+-- The line of a 16-bit row is told by the top byte.
 use mathlib.Core.Path.{_≡_, refl, sym, ap, _∙_}
 use mathlib.Core.Bool.{Bool, true, false, _&&_, cond, true≢false}
 use mathlib.Core.List.{List, [], _∷_, _++_, append-nil}
@@ -10,9 +10,9 @@ use lib.ListN.{length, getD, take, drop}
 use borrow.Author.Tests.{eqb-true}
 use Rattle.isa.specs.Patterns.{Bit, matches}
 use Rattle.isa.specs.ListedEncodings.{Row, row, decodeBy, joinLines}
-use Rattle.isa16.specs.Classes.{begins, lineOf}
-use Rattle.laws.specs.Tests.{both, either, second, fails}
-use Rattle.isa.specs.Theorems.{conflict, conflicting}
+use Rattle.isa16.specs.Classes.{begins, lineNumber}
+use Rattle.laws.proofs.Tests.{both, either, second, fails}
+use Rattle.isa.proofs.Theorems.{conflict, conflicting}
 use Rattle.isa.specs.declared.Instruction.the-variants.{Unlisted}
 use Rattle.isa16.proofs.Patterns.{cut}
 
@@ -81,19 +81,19 @@ module _ (t : ℕ) where
       ⊎-elim (λ k. not-row p rest (d .0) k) (λ k. not-later rows rest (d .1) k) (either (matches (take 8 p) t) (begins rows t) e)
 
   -- the line that is found has such a row
-  pub line-begins : (lines : List (List Row)) → lineOf lines t < length lines → begins (lineAt lines (lineOf lines t)) t ≡ true
+  pub line-begins : (lines : List (List Row)) → lineNumber lines t < length lines → begins (lineAt lines (lineNumber lines t)) t ≡ true
   line-begins [] h = absurd (not-suc-le-zero h)
   line-begins (rows ∷ lines) h = go (line-begins lines) (begins rows t) refl h
     where
-      go : (lineOf lines t < length lines → begins (lineAt lines (lineOf lines t)) t ≡ true)
-          → (b : Bool) → begins rows t ≡ b → cond b 0 (suc (lineOf lines t)) < suc (length lines)
-          → begins (lineAt (rows ∷ lines) (cond b 0 (suc (lineOf lines t)))) t ≡ true
+      go : (lineNumber lines t < length lines → begins (lineAt lines (lineNumber lines t)) t ≡ true)
+          → (b : Bool) → begins rows t ≡ b → cond b 0 (suc (lineNumber lines t)) < suc (length lines)
+          → begins (lineAt (rows ∷ lines) (cond b 0 (suc (lineNumber lines t)))) t ≡ true
       go later true e l = e
       go later false e l = later (le-of-suc-le-suc l)
 
 -- a row is looked for in one line only
 pub in-line : (lines : List (List Row)) → separate lines ≡ true → sized (joinLines lines) ≡ true → (w : ℕ)
-    → decodeBy (joinLines lines) w ≡ decodeBy (lineAt lines (lineOf lines (w / 2 ^ 8))) w
+    → decodeBy (joinLines lines) w ≡ decodeBy (lineAt lines (lineNumber lines (w / 2 ^ 8))) w
 in-line [] p s w = refl
 in-line (rows ∷ lines) p s w =
     let d = both (tops-apart rows (joinLines lines)) (separate lines) p in
@@ -101,8 +101,8 @@ in-line (rows ∷ lines) p s w =
     go (d .0) r (in-line lines (d .1) r w) (begins rows (w / 2 ^ 8)) refl
   where
     go : tops-apart rows (joinLines lines) ≡ true → sized (joinLines lines) ≡ true
-        → decodeBy (joinLines lines) w ≡ decodeBy (lineAt lines (lineOf lines (w / 2 ^ 8))) w
+        → decodeBy (joinLines lines) w ≡ decodeBy (lineAt lines (lineNumber lines (w / 2 ^ 8))) w
         → (b : Bool) → begins rows (w / 2 ^ 8) ≡ b
-        → decodeBy (rows ++ joinLines lines) w ≡ decodeBy (lineAt (rows ∷ lines) (cond b 0 (suc (lineOf lines (w / 2 ^ 8))))) w
+        → decodeBy (rows ++ joinLines lines) w ≡ decodeBy (lineAt (rows ∷ lines) (cond b 0 (suc (lineNumber lines (w / 2 ^ 8))))) w
     go a r later true e = stop w rows (joinLines lines) r (not-later (w / 2 ^ 8) rows (joinLines lines) a e)
     go a r later false e = skip w rows (joinLines lines) s e ∙ later

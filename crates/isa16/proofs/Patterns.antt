@@ -1,4 +1,4 @@
--- A pattern in two parts, and one whose last bits are free. Assumes nothing.
+-- A pattern in two parts, and one whose last bits are free.
 use mathlib.Core.Path.{_≡_, refl, sym, ap, subst, _∙_}
 use mathlib.Core.Bool.{Bool, true, false, _&&_, and-assoc, and-true, false≢true}
 use mathlib.Core.List.{List, [], _∷_, _++_}

@@ -14,12 +14,12 @@ begins [] t = false
 begins (row p m ∷ rows) t = matches (take 8 p) t || begins rows t
 
 -- the number of the first line that has such a row; the number of lines if none has
-abbrev pub lineOf : List (List Row) → ℕ → ℕ
-lineOf [] t = 0
-lineOf (rows ∷ lines) t = cond (begins rows t) 0 (suc (lineOf lines t))
+abbrev pub lineNumber : List (List Row) → ℕ → ℕ
+lineNumber [] t = 0
+lineNumber (rows ∷ lines) t = cond (begins rows t) 0 (suc (lineNumber lines t))
 
 unfoldable pub classOf : ℕ → ℕ
-classOf t = lineOf lines16 t
+classOf t = lineNumber lines16 t
 
 abbrev pub operandsOf : ℕ → Operands
 operandsOf h = record {

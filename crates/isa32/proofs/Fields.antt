@@ -1,9 +1,9 @@
--- Fields of a halfword, as the code takes them. Assumes nothing.
+-- Fields of a halfword, as the code takes them.
 use mathlib.Core.Path.{_≡_}
 use Prim.Native.Nat.{ℕ, _+_, _*_, _/_, _%_, _^_, _<_}
 use native.Mathlib.Omega.{arith}
 use Rattle.bits.specs.Fields.{concat}
-use Rattle.bits.specs.Theorems.{joins}
+use Rattle.bits.proofs.Theorems.{joins}
 use Rattle.isa.specs.ListedEncodings.{imm16Of, wordOf}
 
 four : (a b c d : ℕ) → a < 2 ^ 4 → b < 2 ^ 1 → c < 2 ^ 3 → d < 2 ^ 8

@@ -1,4 +1,4 @@
--- A pattern is matched where the fixed bits, under a mask, are its value. Assumes nothing.
+-- A pattern is matched where the fixed bits, under a mask, are its value.
 use mathlib.Core.Path.{_≡_, refl, sym, ap, _∙_}
 use mathlib.Core.Bool.{true, false, _&&_}
 use mathlib.Core.List.{List, [], _∷_}
@@ -14,7 +14,8 @@ use borrow.Author.Tests.{eq-eqb, ne-eqb, ltb-true}
 use Rattle.bits.specs.Fields.{bit}
 use Rattle.isa.specs.Patterns.{Bit, O, I, x, agrees, matches}
 use Rattle.isa.specs.ListedEncodings.{Row, decodeBy}
-use Rattle.isa.specs.Theorems.{patternAt, meaningAt, apart, found}
+use Rattle.isa.specs.Rows.{patternAt}
+use Rattle.isa.proofs.Theorems.{meaningAt, apart, found}
 
 -- the bit of the mask, and of the value
 abbrev pub fixed : Bit → ℕ

@@ -1,4 +1,4 @@
--- One field more is written or read. Assumes nothing.
+-- One field more is written or read.
 use Prim.Native.Nat.{ℕ, _+_, _<_, _≤_}
 use mathlib.Core.Path.{_≡_, sym, ap, _∙_}
 use mathlib.Core.List.{List}
@@ -7,9 +7,9 @@ use native.Mathlib.Omega.{arith}
 use lib.ListN.{length, getD, take, set}
 use lib.Seq.{take-all, take-suc-set}
 use Rattle.endian.specs.LittleEndian.{loadLE, storeLE}
-use Rattle.endian.specs.Theorems.{store-take}
-use Rattle.layout.specs.StoredForm.{Field, lengthOf, encode, decode}
-use Rattle.layout.specs.Laws.{widthAt, decode-more, encode-more, length-more, length-at-most}
+use Rattle.endian.proofs.Theorems.{store-take}
+use Rattle.layout.specs.StoredForm.{Field, lengthOf, encode, decode, widthAt}
+use Rattle.layout.proofs.Fields.{decode-more, encode-more, length-more, length-at-most}
 
 module _ (fields : List Field) (i at width : ℕ) (n : i < length fields) (a : at ≡ lengthOf (take i fields)) (w : width ≡ widthAt fields i) where
   pub next : at + width ≡ lengthOf (take (i + 1) fields)

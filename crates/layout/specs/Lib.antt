@@ -1,3 +1,1 @@
 pub mod StoredForm
-pub mod Laws
-pub mod Theorems

@@ -1,9 +1,10 @@
 -- The stored form of a record: 44 bytes, a list of fields from which the positions follow.
-use Prim.Native.Nat.{ℕ, _+_, _*_, _^_}
+use Prim.Native.Nat.{ℕ, _+_, _*_, _^_, zero, suc, _<_}
 use mathlib.Core.Bool.{Bool, true, false, cond, _&&_}
 use mathlib.Core.List.{List, [], _∷_, _++_}
 use lib.Dec.{eqb, ltb, leb}
 use lib.ListN.{length, getD, take, drop}
+use mathlib.Core.Path.{_≡_}
 use Rattle.bits.specs.Fields.{bit}
 use Rattle.arm.specs.declared.Flags.{Flags}
 use Rattle.endian.specs.LittleEndian.{loadLE, bytesOf}
@@ -141,3 +142,17 @@ isRecord values = baseStands (getD values 9 0) (getD values 10 0) && leb (getD v
 
 abbrev pub holdsRecord : List ℕ → Bool
 holdsRecord bytes = eqb (length bytes) 44 && isRecord (decode storedForm bytes)
+
+-- the width of field i
+abbrev pub widthAt : List Field → ℕ → ℕ
+widthAt [] i = 0
+widthAt (field width test ∷ fields) zero = width
+widthAt (field width test ∷ fields) (suc i) = widthAt fields i
+
+-- the widths of a record's parts in the code
+pub record Held (r : Record) : Type 0 where
+  pub eight : length (r .regs) ≡ 8
+  pub words : (k : ℕ) → getD (r .regs) k 0 < 2 ^ 32
+  pub sp : r .sp < 2 ^ 32
+  pub offset : offsetOf (r .base) < 2 ^ 32
+  pub place : r .place < 2 ^ 16

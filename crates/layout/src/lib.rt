@@ -8,7 +8,7 @@ ghost use Rattle.endian.specs.LittleEndian.{widthOf};
 ghost use Rattle.layout.specs.StoredForm.{storedForm, encode, decode};
 ghost use Rattle.layout.specs.StoredForm.{kindOf, offsetOf, baseOf, bitOf, flagsNumber, flagsOf, valuesOf, recordOf};
 ghost use Rattle.layout.specs.StoredForm.{recordIn, roomWith, baseStands, isRecord, holdsRecord};
-ghost use Rattle.layout.specs.Laws.{widthAt};
+ghost use Rattle.layout.specs.StoredForm.{widthAt};
 use arm::Flags;
 use endian::Size;
 use state::Base;

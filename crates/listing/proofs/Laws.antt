@@ -1,4 +1,4 @@
--- A listing that grows line by line. Assumes nothing.
+-- A listing that grows line by line.
 use mathlib.Core.Path.{_≡_, refl, sym, ap, _∙_}
 use mathlib.Core.Bool.{Bool, true, false, not, cond}
 use mathlib.Core.List.{List, _++_, append-assoc, append-nil}
@@ -14,7 +14,7 @@ use Rattle.refusal.specs.declared.Refusal.{Refusal}
 use Rattle.refusal.specs.declared.Refusal.the-variants.{PageLength}
 use Rattle.page.specs.Page.{pageFits, bundlesIn, firstOf, secondOf}
 use Rattle.bundle.specs.Reader.{readBundle}
-use Rattle.bundle.specs.Theorems.{read-accepted}
+use Rattle.bundle.proofs.Theorems.{read-accepted}
 use Rattle.bundle.specs.declared.Read.{Read}
 use Rattle.count.specs.declared.Counted.{Counted}
 use Rattle.count.specs.Count.{countOf, countPage}
@@ -47,7 +47,7 @@ turn page head k e x =
 
 pub line-is : {first second count : ℕ} {read : Read} (page : List ℕ) (k : ℕ) → pageFits page ≡ true → count ≡ countOf page → k < bundlesIn page
     → first ≡ firstOf page k → second ≡ secondOf page k → read ≡ readBundle page k
-    → bundleText k first second (ltb k count) (read .reach) ≡ lineOf page k
+    → bundleText k first second (ltb k count) (read .largest) ≡ lineOf page k
 line-is page k f c l p q r = rw (p, q, c, r, read-accepted page k f l)
 
 verdict-is : {counted : Counted} {verdict : Verdict} (page : List ℕ) → counted ≡ countPage page → counted .verdict ≡ verdict → countPage page .verdict ≡ verdict

@@ -5,14 +5,14 @@ use lib.Dec.{ltb}
 use Rattle.refusal.specs.declared.Verdict.{Verdict}
 use Rattle.refusal.specs.declared.Verdict.the-variants.{Accepted, Refused}
 use Rattle.page.specs.Page.{bundlesIn, firstOf, secondOf}
-use Rattle.prefix.specs.Reach.{reachOf}
+use Rattle.prefix.specs.LargestSuccessor.{largestSuccessor}
 use Rattle.bundle.specs.Successors.{successorsOf}
 use Rattle.count.specs.Count.{countOf, countPage}
 use Rattle.report.specs.ListerLines.{headText, bundleText, refusedText}
 
 -- the line of bundle k: below the count it is ok, else out
 abbrev pub lineOf : List ℕ → ℕ → List ℕ
-lineOf page k = bundleText k (firstOf page k) (secondOf page k) (ltb k (countOf page)) (reachOf (successorsOf page k))
+lineOf page k = bundleText k (firstOf page k) (secondOf page k) (ltb k (countOf page)) (largestSuccessor (successorsOf page k))
 
 -- the lines of n bundles from k on
 unfoldable pub bundleLines : List ℕ → ℕ → ℕ → List ℕ

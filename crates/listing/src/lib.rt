@@ -31,8 +31,8 @@ fn put_bundle(page: &[u8], text: &mut [u8], at: usize, k: u32, count: u32) -> us
     let first = page::halfword(page, 2 * k);
     let second = page::halfword(page, 2 * k + 1);
     let read = bundle::read_bundle(page, k);
-    let reach = read.reach;
-    let written = report::bundle_line(&mut text[at..], k, first, second, k < count, reach);
+    let largest = read.largest;
+    let written = report::bundle_line(&mut text[at..], k, first, second, k < count, largest);
     at + report::bytes_written(written)
 }
 

@@ -1,4 +1,4 @@
--- What the code gives back, as the effect that it stands for; and a turn of the run. Assumes nothing.
+-- What the code gives back, as the effect that it stands for; and a turn of the run.
 use Prim.Native.Nat.{ℕ, _+_, _-_, _/_, _≤_, _<_}
 use native.Mathlib.Omega.{arith}
 use mathlib.Core.Bool.{Bool, true, false, cond}
@@ -18,14 +18,15 @@ use Rattle.access.specs.declared.Did.{Did}
 use Rattle.access.specs.Outcomes.{Outcome, does, fails, didOf, Does}
 use Rattle.access.specs.Outcomes as outcomes
 use Rattle.effects.specs.ServiceEffects.{serviceDoes}
-use Rattle.stop.specs.Stops.{Exit, direct, byLiteral, service, fault, mark}
+use Rattle.stop.specs.Stops.{Exit, direct, byLiteral, service, fault}
+use Rattle.stop.specs.Stops as stops
 use Rattle.plain.specs.PlainMachine.{Effect, goesOn, exits, faults, unlisted, Result, onward, plain}
-use Rattle.plain.specs.Theorems.{turn}
+use Rattle.plain.proofs.Theorems.{turn}
 use Rattle.place.specs.Places.{following}
 use Rattle.instruction.specs.Instructions.{endAt, branchTo, branchIf, exitOf, servedBy, served}
 use Rattle.machine.specs.Executed.{exitEnd, executedOf, ramOf, Executes, endedBy}
 use Rattle.machine.specs.declared.End.{End}
-use Rattle.machine.specs.declared.End.the-variants.{GoesOn, Exits, ExitsBy, Fails, Mark}
+use Rattle.machine.specs.declared.End.the-variants.{GoesOn, Exits, ExitsBy, Fails, Unlisted}
 use Rattle.machine.specs.declared.Executed.{Executed}
 
 -- ---- one instruction
@@ -90,7 +91,7 @@ resumed steps next GoesOn r ram = next r ram
 resumed steps next (Exits n) r ram = record { stop = service (direct n); steps = steps + 1; rec = r; ram = ram }
 resumed steps next (ExitsBy n literal) r ram = record { stop = service (byLiteral n literal); steps = steps + 1; rec = r; ram = ram }
 resumed steps next (Fails f) r ram = record { stop = fault (faultNumber f); steps = steps; rec = r; ram = ram }
-resumed steps next Mark r ram = record { stop = mark; steps = steps; rec = r; ram = ram }
+resumed steps next Unlisted r ram = record { stop = stops.unlisted; steps = steps; rec = r; ram = ram }
 
 onward-resumed : (steps : ℕ) (r : Record) (ram : List ℕ) (next : Record → List ℕ → Result) (e : Effect)
     → resumed steps next (executedOf r e .end) (executedOf r e .after) (ramOf ram e) ≡ onward steps r ram next e

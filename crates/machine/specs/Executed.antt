@@ -9,7 +9,7 @@ use Rattle.state.specs.declared.Record.{Record}
 use Rattle.stop.specs.Stops.{Exit, direct, byLiteral}
 use Rattle.plain.specs.PlainMachine.{Effect, goesOn, exits, faults, unlisted}
 use Rattle.machine.specs.declared.End.{End}
-use Rattle.machine.specs.declared.End.the-variants.{GoesOn, Exits, ExitsBy, Fails, Mark}
+use Rattle.machine.specs.declared.End.the-variants.{GoesOn, Exits, ExitsBy, Fails, Unlisted}
 use Rattle.machine.specs.declared.Executed.{Executed}
 
 unfoldable pub exitEnd : Exit → End
@@ -20,7 +20,7 @@ unfoldable pub executedOf : Record → Effect → Executed
 executedOf r (goesOn s after) = record { end = GoesOn; after = s }
 executedOf r (exits exit s after) = record { end = exitEnd exit; after = s }
 executedOf r (faults fault) = record { end = Fails fault; after = r }
-executedOf r unlisted = record { end = Mark; after = r }
+executedOf r unlisted = record { end = Unlisted; after = r }
 
 unfoldable pub ramOf : List ℕ → Effect → List ℕ
 ramOf ram (goesOn r after) = after

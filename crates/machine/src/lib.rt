@@ -2,7 +2,7 @@
 ghost use mathlib.Core.Path.{_≡_};
 ghost use Prim.Native.Nat.{_<_, _≤_};
 ghost use lib.ListN.{length};
-ghost use Rattle.branch.specs.Theorems.{Near};
+ghost use Rattle.branch.specs.Branches.{Near};
 ghost use Rattle.memory.specs.declared.Stored.the-variants.{Done};
 ghost use Rattle.compute.specs.Computed as computing;
 ghost use Rattle.plain.specs.PlainMachine.{unlisted, plain};
@@ -31,7 +31,7 @@ enum End {
     ExitsBy(u8, u32),
     Fails(Fault),
     // nothing listed stands there
-    Mark,
+    Unlisted,
 }
 
 struct Executed {
@@ -67,11 +67,11 @@ fn ended(d: Did, end: End, place: u16) -> Executed
 }
 
 // The mark of what is not listed; nothing changes.
-fn marked(r: Record) -> Executed
+fn unlisted(r: Record) -> Executed
     ensures { λ x. ⌜ x ≡ executedOf r unlisted ⌝ }
 {
     Executed {
-        end: End::Mark,
+        end: End::Unlisted,
         after: r,
     }
 }
@@ -90,7 +90,7 @@ fn branch_to(r: Record, t: Target) -> Executed
     ensures { λ x. ⌜ ExecutesAny r (λ m. branchTo r m t) x ⌝ }
 {
     match t {
-        Target::Bad => marked(r),
+        Target::Bad => unlisted(r),
         Target::At(b) => Executed {
             end: End::GoesOn,
             after: state::set_place(r, (2 * b) as u16),
@@ -187,7 +187,7 @@ fn serve(page: &[u8], external: &[u8], n: u8, r: Record, ram: &mut [u8]) -> Exec
             exit_end(page, n),
             r.place,
         ),
-        Ending::Bad => marked(r),
+        Ending::Bad => unlisted(r),
     }
 }
 
@@ -224,7 +224,7 @@ fn perform(page: &[u8], external: &[u8], i: Instruction, r: Record, ram: &mut [u
         Instruction::Bcc(condition, imm8) => bcc(page, condition, imm8, r),
         Instruction::B(imm11) => b(imm11, r),
         Instruction::Service(n) => serve(page, external, n, r, ram),
-        Instruction::Unlisted => marked(r),
+        Instruction::Unlisted => unlisted(r),
     }
 }
 
@@ -236,7 +236,7 @@ fn execute(page: &[u8], external: &[u8], r: Record, ram: &mut [u8]) -> Executed
     if ((r.place / 2) as usize) < page.len() / 4 {
         perform(page, external, place::instruction_at(page, r.place), r, ram)
     } else {
-        marked(r)
+        unlisted(r)
     }
 }
 
@@ -271,7 +271,7 @@ fn run_on(page: &[u8], external: &[u8], start: Record, ram: &mut [u8], budget: u
                 after,
             ),
             End::Fails(fault) => return stopped(Stop::Fault(fault), steps, after),
-            End::Mark => return stopped(Stop::Mark, steps, after),
+            End::Unlisted => return stopped(Stop::Unlisted, steps, after),
         }
     }
     stopped(Stop::Budget, steps, r)

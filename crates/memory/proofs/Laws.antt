@@ -1,4 +1,4 @@
--- Edges, parts of a list and integers, over plain variables. Assumes nothing.
+-- Edges, parts of a list and integers, over plain variables.
 use mathlib.Core.Path.{_≡_, _∙_}
 use mathlib.Core.Bool.{true, false}
 use mathlib.Core.List.{List}
@@ -13,11 +13,11 @@ use lib.Signed.{mag}
 use borrow.Author.Tests.{le-leb, lt-leb}
 use mir.Syntax.{w64}
 use mir.Val.{toZ, ofZ}
-use Rattle.laws.specs.Integers.{read}
+use Rattle.laws.proofs.Integers.{read}
 use Rattle.bits.specs.Integers.{SInt, lowWord}
 use Rattle.arm.specs.Bitwise.{signExtended}
 use Rattle.endian.specs.LittleEndian.{widthOf}
-use Rattle.endian.specs.Theorems.{width-le}
+use Rattle.endian.proofs.Theorems.{width-le}
 use Rattle.endian.specs.declared.Size.{Size}
 
 -- ---- an edge, tested by the last place that fits

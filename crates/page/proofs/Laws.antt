@@ -1,4 +1,4 @@
--- The four bytes of a word. Assumes nothing.
+-- The four bytes of a word.
 use mathlib.Core.Path.{_≡_}
 use mathlib.Core.List.{List}
 use Prim.Native.Nat.{ℕ, _+_, _*_}

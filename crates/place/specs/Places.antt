@@ -1,15 +1,13 @@
 -- Places: what stands at one, and fit places.
 use Prim.Native.Nat.{ℕ, _+_, _/_, _%_}
-use mathlib.Core.Bool.{Bool, true, false, not, _&&_, _||_, cond}
+use mathlib.Core.Bool.{Bool, not, _&&_, _||_, cond}
 use mathlib.Core.List.{List}
 use lib.Dec.{eqb, ltb}
 use Rattle.page.specs.Page.{bundlesIn, firstOf, secondOf}
 use Rattle.isa.specs.ListedEncodings.{opens32, decode16Of, decode32Of}
 use Rattle.isa.specs.declared.Instruction.{Instruction}
-use Rattle.isa.specs.declared.Instruction.the-variants.{Data, Memory, Cbz, Cbnz, Bcc, B, Service, Unlisted}
-use Rattle.service.specs.Services.{serviceOf, endingOf}
-use Rattle.service.specs.declared.Ending.{Ending}
-use Rattle.service.specs.declared.Ending.the-variants.{GoesOn, Exit, LastExit, Bad}
+use Rattle.isa.specs.declared.Instruction.the-variants.{Unlisted}
+use Rattle.bundle.specs.Flow.{terminator}
 use Rattle.count.specs.Count.{countPage}
 
 -- an even place is the first half of its bundle, an odd one the second
@@ -30,23 +28,6 @@ unfoldable pub following : List ℕ → ℕ → ℕ
 following page place = place + cond (opens32 (firstOf page (place / 2))) 2 1
 
 -- ---- fit places
-
-abbrev pub endsFlow : Ending → Bool
-endsFlow GoesOn = false
-endsFlow Exit = false
-endsFlow LastExit = true
-endsFlow Bad = false
-
--- terminators are b and the services so marked
-abbrev pub terminator : List ℕ → Instruction → Bool
-terminator page (Data operation) = false
-terminator page (Memory access) = false
-terminator page (Cbz imm6 n) = false
-terminator page (Cbnz imm6 n) = false
-terminator page (Bcc condition imm8) = false
-terminator page (B imm11) = true
-terminator page (Service n) = endsFlow (endingOf (serviceOf page n))
-terminator page Unlisted = false
 
 -- of a bundle's halfwords: two 16-bit instructions whose first is no terminator
 unfoldable pub secondFits : List ℕ → ℕ → ℕ → Bool

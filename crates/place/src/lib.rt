@@ -1,9 +1,7 @@
 // What stands at a place, and whether the place is fit.
 ghost use mathlib.Core.Path.{_≡_};
-ghost use Rattle.place.specs.Places.{standsIn, instructionAt, following, terminator, secondFits, fitPlace};
-ghost use Rattle.place.specs.Places as places;
+ghost use Rattle.place.specs.Places.{standsIn, instructionAt, following, secondFits, fitPlace};
 use isa::Instruction;
-use service::Ending;
 
 // Of a bundle's halfwords.
 fn stands_in(even: bool, first: u16, second: u16) -> Instruction
@@ -50,32 +48,6 @@ pub fn next_place(page: &[u8], place: u16) -> u32
     }
 }
 
-fn ends_flow(e: Ending) -> bool
-    ensures { λ t. ⌜ t ≡ places.endsFlow e ⌝ }
-{
-    match e {
-        Ending::GoesOn => false,
-        Ending::Exit => false,
-        Ending::LastExit => true,
-        Ending::Bad => false,
-    }
-}
-
-fn is_terminator(page: &[u8], i: Instruction) -> bool
-    ensures { λ t. ⌜ t ≡ terminator (now (page .entry)) i ⌝ }
-{
-    match i {
-        Instruction::Data(_) => false,
-        Instruction::Memory(_) => false,
-        Instruction::Cbz(_, _) => false,
-        Instruction::Cbnz(_, _) => false,
-        Instruction::Bcc(_, _) => false,
-        Instruction::B(_) => true,
-        Instruction::Service(n) => ends_flow(service::ending_of(service::service_of(page, n))),
-        Instruction::Unlisted => false,
-    }
-}
-
 // Of a bundle's halfwords: the second is fit, if the bundle lies below the count.
 fn second_fits(page: &[u8], leading: u16, second: u16) -> bool
     ensures { λ t. ⌜ t ≡ secondFits (now (page .entry)) leading second ⌝ }
@@ -86,7 +58,7 @@ fn second_fits(page: &[u8], leading: u16, second: u16) -> bool
     if isa::opens_32(second) {
         return false;
     }
-    !is_terminator(page, isa16::decode16(leading))
+    !bundle::is_terminator(page, isa16::decode16(leading))
 }
 
 pub fn is_fit(page: &[u8], place: u16) -> bool

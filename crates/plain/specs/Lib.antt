@@ -1,3 +1,2 @@
 pub mod PlainMachine
 pub mod Calls
-pub mod Theorems

@@ -4,7 +4,8 @@ use mathlib.Core.List.{List}
 use Rattle.memory.specs.Faults.{faultNumber}
 use Rattle.memory.specs.declared.Fault.{Fault}
 use Rattle.state.specs.declared.Record.{Record}
-use Rattle.stop.specs.Stops.{Exit, Reason, budget, service, fault, mark}
+use Rattle.stop.specs.Stops.{Exit, Reason, budget, service, fault}
+use Rattle.stop.specs.Stops as stops
 
 -- an instruction goes on, or exits, with a record and RAM; or it faults; or nothing listed stands there, which is the mark. The last
 -- two change nothing
@@ -27,7 +28,7 @@ abbrev pub onward : ℕ → Record → List ℕ → (Record → List ℕ → Res
 onward steps r ram next (goesOn s after) = next s after
 onward steps r ram next (exits exit s after) = record { stop = service exit; steps = steps + 1; rec = s; ram = after }
 onward steps r ram next (faults f) = record { stop = fault (faultNumber f); steps = steps; rec = r; ram = ram }
-onward steps r ram next unlisted = record { stop = mark; steps = steps; rec = r; ram = ram }
+onward steps r ram next unlisted = record { stop = stops.unlisted; steps = steps; rec = r; ram = ram }
 
 -- so much of the budget is left after so many steps: with nothing left it stops as "budget", else it takes the definition of the
 -- instruction

@@ -1,3 +1,2 @@
 pub mod Prefix
-pub mod Theorems
-pub mod Reach
+pub mod LargestSuccessor

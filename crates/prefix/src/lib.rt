@@ -1,33 +1,33 @@
 // What a bundle's successors come to, for the single pass: only the largest counts.
 ghost use mathlib.Core.Path.{_≡_};
 ghost use mathlib.Core.Bool.{cond};
-ghost use Rattle.prefix.specs.Reach.{withSuccessor, reachWithin};
+ghost use Rattle.prefix.specs.LargestSuccessor.{withSuccessor, largestWithin};
 
 // A bundle is bad, has no successor, or has a largest one.
-pub enum Reach {
+pub enum LargestSuccessor {
     Bad,
     Nothing,
     Largest(u32),
 }
 
 // One successor more.
-pub fn with_successor(r: Reach, s: u32) -> Reach
+pub fn with_successor(r: LargestSuccessor, s: u32) -> LargestSuccessor
     ensures { λ q. ⌜ q ≡ withSuccessor r s ⌝ }
 {
     match r {
-        Reach::Bad => Reach::Bad,
-        Reach::Nothing => Reach::Largest(s),
-        Reach::Largest(t) => Reach::Largest(if t < s { s } else { t }),
+        LargestSuccessor::Bad => LargestSuccessor::Bad,
+        LargestSuccessor::Nothing => LargestSuccessor::Largest(s),
+        LargestSuccessor::Largest(t) => LargestSuccessor::Largest(if t < s { s } else { t }),
     }
 }
 
 // The bound after bundle k: it stays, or falls to k where the bundle is not within it.
-pub fn bound_after(bound: u32, r: Reach, k: u32) -> u32
-    ensures { λ b. ⌜ b ≡ cond (reachWithin bound r) bound k ⌝ }
+pub fn bound_after(bound: u32, r: LargestSuccessor, k: u32) -> u32
+    ensures { λ b. ⌜ b ≡ cond (largestWithin bound r) bound k ⌝ }
 {
     match r {
-        Reach::Bad => k,
-        Reach::Nothing => bound,
-        Reach::Largest(s) => { if s < bound { bound } else { k } }
+        LargestSuccessor::Bad => k,
+        LargestSuccessor::Nothing => bound,
+        LargestSuccessor::Largest(s) => { if s < bound { bound } else { k } }
     }
 }

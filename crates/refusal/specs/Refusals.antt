@@ -7,15 +7,15 @@ use Rattle.refusal.specs.declared.Refusal.the-variants.{PageLength, RamL
 use Rattle.refusal.specs.declared.Verdict.{Verdict}
 use Rattle.refusal.specs.declared.Verdict.the-variants.{Accepted, Refused}
 
-abbrev pub numberOf : Refusal → ℕ
-numberOf PageLength = 1
-numberOf RamLength = 2
-numberOf ExternalLength = 3
-numberOf UnfitRecord = 4
-numberOf UnfitPlace = 5
-numberOf FormLength = 6
-numberOf FormRange = 7
-numberOf NoSuchBundle = 8
+abbrev pub refusalNumber : Refusal → ℕ
+refusalNumber PageLength = 1
+refusalNumber RamLength = 2
+refusalNumber ExternalLength = 3
+refusalNumber UnfitRecord = 4
+refusalNumber UnfitPlace = 5
+refusalNumber FormLength = 6
+refusalNumber FormRange = 7
+refusalNumber NoSuchBundle = 8
 
 -- a line of a call's refusal table: refused when the test holds
 pub data Rule : Type 0 where

@@ -1,6 +1,6 @@
 // Why a call is refused.
 ghost use mathlib.Core.Path.{_≡_};
-ghost use Rattle.refusal.specs.Refusals.{numberOf};
+ghost use Rattle.refusal.specs.Refusals.{refusalNumber};
 
 // In the order of the build paper's numbers, 1 to 8.
 pub enum Refusal {
@@ -22,7 +22,7 @@ pub enum Verdict {
 
 // The build paper's number of a refusal.
 pub fn number(r: Refusal) -> u8
-    ensures { λ n. ⌜ n ≡ numberOf r ⌝ }
+    ensures { λ n. ⌜ n ≡ refusalNumber r ⌝ }
 {
     match r {
         Refusal::PageLength => 1,

@@ -1,4 +1,4 @@
--- The digits of a number: the last one, and how many there are. Assumes nothing.
+-- The digits of a number: the last one, and how many there are.
 use mathlib.Core.Path.{_≡_, refl, ap, _∙_}
 use mathlib.Core.Bool.{cond}
 use mathlib.Core.List.{List, [], _∷_, _++_}

@@ -1,4 +1,4 @@
--- A line that grows. Assumes nothing.
+-- A line that grows.
 use mathlib.Core.Path.{_≡_, sym}
 use mathlib.Core.List.{List, [], _∷_, _++_, append-assoc, append-nil}
 use Prim.Native.Nat.{ℕ, _+_, _≤_, _<_}

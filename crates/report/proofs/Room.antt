@@ -1,4 +1,4 @@
--- A text's way into the room. Assumes nothing.
+-- A text's way into the room.
 use mathlib.Core.Path.{_≡_, refl}
 use mathlib.Core.List.{List, _++_, append-assoc}
 use Prim.Native.Nat.{ℕ, suc, _+_, _≤_, _<_}

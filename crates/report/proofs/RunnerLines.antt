@@ -1,4 +1,4 @@
--- The runner's lines: how long their fields are, and a turn of the loop over the registers. Assumes nothing.
+-- The runner's lines: how long their fields are, and a turn of the loop over the registers.
 use mathlib.Core.Path.{_≡_, sym}
 use mathlib.Core.Bool.{Bool, true, false}
 use mathlib.Core.List.{List, [], _∷_, _++_, append-assoc, append-nil}

@@ -1,4 +1,4 @@
--- A line in room that is enough for it, and a text that grows by it. Assumes nothing.
+-- A line in room that is enough for it, and a text that grows by it.
 use mathlib.Core.Path.{_≡_, refl}
 use mathlib.Core.List.{List, _++_, append-assoc}
 use Prim.Native.Nat.{ℕ, _+_, _-_, _≤_}

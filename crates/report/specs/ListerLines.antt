@@ -2,10 +2,10 @@
 use Prim.Native.Nat.{ℕ}
 use mathlib.Core.Bool.{Bool, true, false}
 use mathlib.Core.List.{List, [], _∷_, _++_}
-use Rattle.prefix.specs.declared.Reach.{Reach}
-use Rattle.prefix.specs.declared.Reach.the-variants.{Bad, Nothing, Largest}
+use Rattle.prefix.specs.declared.LargestSuccessor.{LargestSuccessor}
+use Rattle.prefix.specs.declared.LargestSuccessor.the-variants.{Bad, Nothing, Largest}
 use Rattle.refusal.specs.declared.Refusal.{Refusal}
-use Rattle.refusal.specs.Refusals.{numberOf}
+use Rattle.refusal.specs.Refusals.{refusalNumber}
 use Rattle.report.specs.Digits.{hex, decimal}
 use Rattle.report.specs.Words.{space, newline, refusedLine}
 
@@ -27,17 +27,17 @@ insideText true = 111 ∷ 107 ∷ []
 insideText false = 111 ∷ 117 ∷ 116 ∷ []
 
 -- the largest successor: "bad" for a bad bundle, "-" for none
-unfoldable pub reachText : Reach → List ℕ
-reachText Bad = 98 ∷ 97 ∷ 100 ∷ []
-reachText Nothing = 45 ∷ []
-reachText (Largest s) = decimal s
+unfoldable pub largestText : LargestSuccessor → List ℕ
+largestText Bad = 98 ∷ 97 ∷ 100 ∷ []
+largestText Nothing = 45 ∷ []
+largestText (Largest s) = decimal s
 
 -- bundle k: its halfwords, whether it lies below the count, its largest successor
-unfoldable pub bundleText : ℕ → ℕ → ℕ → Bool → Reach → List ℕ
-bundleText k first second inside reach =
+unfoldable pub bundleText : ℕ → ℕ → ℕ → Bool → LargestSuccessor → List ℕ
+bundleText k first second inside largest =
     decimal k ++ space ++ hex 4 first ++ space ++ hex 4 second ++ space
-    ++ insideText inside ++ space ++ reachText reach ++ newline
+    ++ insideText inside ++ space ++ largestText largest ++ newline
 
 -- a page that is refused
 unfoldable pub refusedText : Refusal → List ℕ
-refusedText refusal = refusedLine (numberOf refusal)
+refusedText refusal = refusedLine (refusalNumber refusal)

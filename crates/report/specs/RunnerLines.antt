@@ -3,7 +3,7 @@ use Prim.Native.Nat.{ℕ}
 use mathlib.Core.Bool.{Bool, true, false}
 use mathlib.Core.List.{List, [], _∷_, _++_}
 use Rattle.arm.specs.declared.Flags.{Flags}
-use Rattle.stop.specs.Stops.{direct, byLiteral, Reason, budget, service, fault, mark, refused}
+use Rattle.stop.specs.Stops.{direct, byLiteral, Reason, budget, service, fault, unlisted, refused}
 use Rattle.report.specs.Digits.{hex, decimal}
 use Rattle.report.specs.Words.{space, newline, refusedLine}
 
@@ -37,7 +37,7 @@ stopText budget = stopWord ++ budgetWord ++ newline
 stopText (service (direct n)) = serviceField n ++ newline
 stopText (service (byLiteral n literal)) = serviceField n ++ space ++ hex 8 literal ++ newline
 stopText (fault n) = stopWord ++ faultWord ++ decimal n ++ newline
-stopText mark = stopWord ++ markWord ++ newline
+stopText unlisted = stopWord ++ markWord ++ newline
 stopText (refused n) = refusedLine n
 
 -- "steps "

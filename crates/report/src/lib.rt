@@ -1,6 +1,6 @@
 // The lines that the programs print, made as bytes in lent room.
 use arm::Flags;
-use prefix::Reach;
+use prefix::LargestSuccessor;
 use refusal::Refusal;
 use stop::Stop;
 ghost use mathlib.Core.Path.{_≡_};
@@ -12,7 +12,7 @@ ghost use Rattle.report.specs.Digits.{digit, hex, decimal};
 ghost use Rattle.report.specs.Line.{textOf, Appended};
 ghost use Rattle.report.specs.Room.{writtenOf, placed, bytesWritten};
 ghost use Rattle.report.specs.Words.{newline};
-ghost use Rattle.report.specs.ListerLines.{headText, bundleText, insideText, reachText, refusedText};
+ghost use Rattle.report.specs.ListerLines.{headText, bundleText, insideText, largestText, refusedText};
 ghost use Rattle.report.specs.RunnerLines.{serviceField, stopText, stepsText, placeText};
 ghost use Rattle.report.specs.RunnerLines.{wordsText, regsText, flagText, flagsText};
 
@@ -169,14 +169,14 @@ fn put_inside(l: Line, inside: bool) -> Line
 }
 
 // The largest successor.
-fn put_reach(l: Line, reach: Reach) -> Line
+fn put_largest(l: Line, largest: LargestSuccessor) -> Line
     requires { ⌜ l .len + 10 ≤ 96 ⌝ }
-    ensures { λ r. ⌜ Appended l (reachText reach) r ⌝ }
+    ensures { λ r. ⌜ Appended l (largestText largest) r ⌝ }
 {
-    match reach {
-        Reach::Bad => put(l, b"bad"),
-        Reach::Nothing => put(l, b"-"),
-        Reach::Largest(s) => put_decimal(l, s),
+    match largest {
+        LargestSuccessor::Bad => put(l, b"bad"),
+        LargestSuccessor::Nothing => put(l, b"-"),
+        LargestSuccessor::Largest(s) => put_decimal(l, s),
     }
 }
 
@@ -187,16 +187,16 @@ pub fn bundle_line(
     first: u16,
     second: u16,
     inside: bool,
-    reach: Reach,
+    largest: LargestSuccessor,
 ) -> Written
-    ensures { λ r. ⌜ (r ≡ writtenOf (bundleText k first second inside reach) (length (now (room .entry))))
-        × (now (room .exit) ≡ placed (bundleText k first second inside reach) (now (room .entry))) ⌝ }
+    ensures { λ r. ⌜ (r ≡ writtenOf (bundleText k first second inside largest) (length (now (room .entry))))
+        × (now (room .exit) ≡ placed (bundleText k first second inside largest) (now (room .entry))) ⌝ }
 {
     let l = push(put_decimal(fresh(), k), b' ');
     let l = push(put_hex(l, 4, first as u32), b' ');
     let l = push(put_hex(l, 4, second as u32), b' ');
     let l = push(put_inside(l, inside), b' ');
-    let l = push(put_reach(l, reach), b'\n');
+    let l = push(put_largest(l, largest), b'\n');
     emit(l, room)
 }
 
@@ -231,7 +231,7 @@ pub fn stop_line(room: &mut [u8], stop: Stop) -> Written
             emit(push(put_hex(l, 8, literal), b'\n'), room)
         }
         Stop::Fault(fault) => number_line(room, b"stop fault ", memory::fault_number(fault) as u32),
-        Stop::Mark => place(b"stop mark\n", room),
+        Stop::Unlisted => place(b"stop mark\n", room),
         Stop::Refused(refusal) => refused_line(room, refusal),
     }
 }

@@ -1,4 +1,3 @@
 pub mod Traces
 pub mod Series
-pub mod Runs
-pub mod Theorems
+pub mod Keeps

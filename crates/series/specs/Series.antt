@@ -5,12 +5,12 @@ use mathlib.Core.Bool.{Bool, true, cond}
 use mathlib.Core.List.{List, [], _∷_}
 use mathlib.Core.Path.{_≡_}
 use lib.ListN.{length, getD}
-use Rattle.refusal.specs.Refusals.{numberOf}
+use Rattle.refusal.specs.Refusals.{refusalNumber}
 use Rattle.refusal.specs.declared.Refusal.{Refusal}
 use Rattle.refusal.specs.declared.Verdict.{Verdict}
 use Rattle.refusal.specs.declared.Verdict.the-variants.{Accepted, Refused}
 use Rattle.state.specs.declared.Record.{Record}
-use Rattle.stop.specs.Stops.{Exit, Reason, budget, service, fault, mark, refused}
+use Rattle.stop.specs.Stops.{Exit, Reason, budget, service, fault, unlisted, refused}
 use Rattle.plain.specs.PlainMachine.{Effect, Result, plain}
 use Rattle.plain.specs.Calls.{callBy}
 use Rattle.series.specs.Traces.{trace, Each}
@@ -31,7 +31,7 @@ standingRam (other itsRecord itsRam) before gave = cond itsRam gave before
 
 module _ (Setting : Type 0) (instruction : Setting → Record → List ℕ → Effect) (verdictOf : Setting → Record → List ℕ → Verdict) where
   -- what a call was handed, and what it gave back. A step is a run with budget 1
-  pub record Call : Type 0 where
+  pub record SeriesCall : Type 0 where
     pub role : Role
     pub setting : Setting
     pub total : ℕ
@@ -46,7 +46,7 @@ module _ (Setting : Type 0) (instruction : Setting → Record → List ℕ → E
   -- ---- a series
 
   -- an own call is handed the one setting, and the record and RAM that stand; another is one that the papers refuse
-  abbrev pub HandedBy : Role → Setting → Call → Record → List ℕ → Type 0
+  abbrev pub HandedBy : Role → Setting → SeriesCall → Record → List ℕ → Type 0
   HandedBy own setting c r ram = (c .setting ≡ setting) × (c .rec ≡ r) × (c .ram ≡ ram)
   HandedBy (other itsRecord itsRam) setting c r ram =
       ((why : Refusal) × (verdictOf (c .setting) (c .rec) (c .ram) ≡ Refused why))
@@ -54,7 +54,7 @@ module _ (Setting : Type 0) (instruction : Setting → Record → List ℕ → E
       × (itsRam ≡ true → c .ram ≡ ram)
 
   -- what a call gave is known by its contract alone; the next one is handed what then stands
-  abbrev pub Series : Setting → List Call → Record → List ℕ → Type 0
+  abbrev pub Series : Setting → List SeriesCall → Record → List ℕ → Type 0
   Series setting [] r ram = Unit {0}
   Series setting (c ∷ cs) r ram =
       HandedBy (c .role) setting c r ram
@@ -69,15 +69,15 @@ module _ (Setting : Type 0) (instruction : Setting → Record → List ℕ → E
     -- another call, with all that it was handed
     otherCall : Setting → ℕ → Record → List ℕ → Fed
 
-  abbrev pub fedBy : Role → Call → Fed
+  abbrev pub fedBy : Role → SeriesCall → Fed
   fedBy own c = ownCall (c .total)
   fedBy (other itsRecord itsRam) c = otherCall (c .setting) (c .total) (c .rec) (c .ram)
 
-  abbrev pub fedTo : List Call → List Fed
+  abbrev pub fedTo : List SeriesCall → List Fed
   fedTo [] = []
   fedTo (c ∷ cs) = fedBy (c .role) c ∷ fedTo cs
 
-  abbrev pub gaveOf : List Call → List Result
+  abbrev pub gaveOf : List SeriesCall → List Result
   gaveOf [] = []
   gaveOf (c ∷ cs) = c .gave ∷ gaveOf cs
 
@@ -94,18 +94,18 @@ module _ (Setting : Type 0) (instruction : Setting → Record → List ℕ → E
 
   module _ (Starts : Record → Type 0) (ServiceAt : Record → Exit → Type 0) (Known : ℕ → Type 0) where
     -- entry i of a call's trace
-    abbrev pub entry : Setting → Call → ℕ → Result
+    abbrev pub entry : Setting → SeriesCall → ℕ → Result
     entry setting c i = plain (instruction setting) i 0 (c .rec) (c .ram)
 
     -- a call stops as "budget" only when all of it is spent; at a service that stands at the last executed place; or by a fault
-    abbrev pub Stops : Setting → Call → Reason → Type 0
+    abbrev pub Stops : Setting → SeriesCall → Reason → Type 0
     Stops setting c budget = c .gave .steps ≡ c .total
     Stops setting c (service exit) = (1 ≤ c .gave .steps) × ServiceAt (entry setting c (c .gave .steps - 1) .rec) exit
     Stops setting c (fault n) = Known n
-    Stops setting c mark = ⊥
+    Stops setting c unlisted = ⊥
     Stops setting c (refused n) = ⊥
 
-    pub record OwnCall (setting : Setting) (c : Call) : Type 0 where
+    pub record OwnCall (setting : Setting) (c : SeriesCall) : Type 0 where
       -- it is not refused
       pub accepted : verdictOf (c .setting) (c .rec) (c .ram) ≡ Accepted
       pub stops : Stops setting c (c .gave .stop)
@@ -119,21 +119,21 @@ module _ (Setting : Type 0) (instruction : Setting → Record → List ℕ → E
           × (entry setting c i .steps ≡ i)
 
     -- another call is refused by its table, and gives back what it was handed
-    pub record OtherCall (c : Call) : Type 0 where
+    pub record OtherCall (c : SeriesCall) : Type 0 where
       pub why : Refusal
       pub refuses : verdictOf (c .setting) (c .rec) (c .ram) ≡ Refused why
-      pub gives : c .gave ≡ record { stop = refused (numberOf why); steps = 0; rec = c .rec; ram = c .ram }
+      pub gives : c .gave ≡ record { stop = refused (refusalNumber why); steps = 0; rec = c .rec; ram = c .ram }
 
-    abbrev pub SoundBy : Role → Setting → Call → Type 0
+    abbrev pub SoundBy : Role → Setting → SeriesCall → Type 0
     SoundBy own setting c = OwnCall setting c
     SoundBy (other itsRecord itsRam) setting c = OtherCall c
 
     -- every call is so, and before, between and after them a listed instruction starts at the place that stands
-    abbrev pub Sound : Setting → List Call → Record → Type 0
+    abbrev pub Sound : Setting → List SeriesCall → Record → Type 0
     Sound setting [] r = Starts r
     Sound setting (c ∷ cs) r = Starts r × SoundBy (c .role) setting c × Sound setting cs (standingRecord (c .role) r (c .gave .rec))
 
-    pub record Demand3 (setting : Setting) (cs : List Call) (r : Record) (ram : List ℕ) : Type 0 where
+    pub record Demand3 (setting : Setting) (cs : List SeriesCall) (r : Record) (ram : List ℕ) : Type 0 where
       pub sound : Sound setting cs r
       -- stop, steps, record and every byte of RAM of every call are the plain machine's
       pub plainly : gaveOf cs ≡ plainSeries setting (fedTo cs) r ram

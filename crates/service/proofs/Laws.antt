@@ -1,4 +1,4 @@
--- A bit of a word, read as a field of one bit. Assumes nothing.
+-- A bit of a word, read as a field of one bit.
 use mathlib.Core.Path.{_≡_}
 use mathlib.Core.Bool.{true, false, cond}
 use Prim.Native.Nat.{ℕ, zero, suc, _*_, _/_, _%_, _^_, _<_}

@@ -1,9 +1,9 @@
 -- Stops: the build paper's number and values for each.
 use Prim.Native.Nat.{ℕ}
-use Rattle.refusal.specs.Refusals.{numberOf}
+use Rattle.refusal.specs.Refusals.{refusalNumber}
 use Rattle.memory.specs.Faults.{faultNumber}
 use Rattle.stop.specs.declared.Stop.{Stop}
-use Rattle.stop.specs.declared.Stop.the-variants.{Budget, Service, ServiceBy, Fault, Mark, Refused}
+use Rattle.stop.specs.declared.Stop.the-variants.{Budget, Service, ServiceBy, Fault, Unlisted, Refused}
 
 -- what a service exit carries: the low byte and, for 01-7F, the literal
 pub data Exit : Type 0 where
@@ -15,7 +15,7 @@ pub data Reason : Type 0 where
   budget : Reason
   service : Exit → Reason
   fault : ℕ → Reason
-  mark : Reason
+  unlisted : Reason
   refused : ℕ → Reason
 
 abbrev pub reasonOf : Stop → Reason
@@ -23,5 +23,5 @@ reasonOf Budget = budget
 reasonOf (Service n) = service (direct n)
 reasonOf (ServiceBy n literal) = service (byLiteral n literal)
 reasonOf (Fault f) = fault (faultNumber f)
-reasonOf Mark = mark
-reasonOf (Refused r) = refused (numberOf r)
+reasonOf Unlisted = unlisted
+reasonOf (Refused r) = refused (refusalNumber r)

@@ -11,6 +11,6 @@ pub enum Stop {
     ServiceBy(u8, u32),
     Fault(Fault),
     // at a halfword that stands for nothing listed
-    Mark,
+    Unlisted,
     Refused(Refusal),
 }

@@ -1,11 +1,11 @@
--- No line of the runner is longer than 96 bytes. Assumes nothing.
+-- No line of the runner is longer than 96 bytes.
 use mathlib.Core.Path.{_≡_}
 use mathlib.Core.List.{List}
 use Prim.Native.Nat.{ℕ, _+_, _*_, _≤_}
 use native.Mathlib.Omega.{arith}
 use lib.ListN.{length, length-append}
 use Rattle.arm.specs.declared.Flags.{Flags}
-use Rattle.stop.specs.Stops.{direct, byLiteral, Reason, budget, service, fault, mark, refused}
+use Rattle.stop.specs.Stops.{direct, byLiteral, Reason, budget, service, fault, unlisted, refused}
 use Rattle.report.specs.RunnerLines.{stopText, stepsText, placeText, regsText, flagsText}
 use Rattle.report.specs.Text.{Extended}
 use Rattle.report.proofs.Digits.{hex-length, decimal-length}
@@ -17,7 +17,7 @@ stop-length budget = omega arith
 stop-length (service (direct n)) = simp length-append (omega (arith, service-length n))
 stop-length (service (byLiteral n literal)) = simp length-append (omega (arith, service-length n, hex-length 8 literal))
 stop-length (fault n) = simp length-append (omega (arith, decimal-length n))
-stop-length mark = omega arith
+stop-length unlisted = omega arith
 stop-length (refused n) = simp length-append (omega (arith, decimal-length n))
 
 pub steps-length : (steps : ℕ) → length (stepsText steps) ≤ 96

@@ -3,14 +3,14 @@ use Prim.Native.Nat.{ℕ}
 use mathlib.Core.Bool.{Bool, true, false, cond}
 use mathlib.Core.List.{List, _++_}
 use Rattle.state.specs.declared.Record.{Record}
-use Rattle.stop.specs.Stops.{Reason, budget, service, fault, mark, refused}
+use Rattle.stop.specs.Stops.{Reason, budget, service, fault, unlisted, refused}
 use Rattle.report.specs.RunnerLines.{stopText, stepsText, placeText, regsText, flagsText}
 
 abbrev pub isRefusal : Reason → Bool
 isRefusal budget = false
 isRefusal (service exit) = false
 isRefusal (fault n) = false
-isRefusal mark = false
+isRefusal unlisted = false
 isRefusal (refused n) = true
 
 -- the five lines of a run

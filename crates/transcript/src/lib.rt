@@ -72,7 +72,7 @@ fn is_refusal(stop: Stop) -> bool
         Stop::Service(_) => false,
         Stop::ServiceBy(_, _) => false,
         Stop::Fault(_) => false,
-        Stop::Mark => false,
+        Stop::Unlisted => false,
         Stop::Refused(_) => true,
     }
 }

@@ -1,5 +1,5 @@
 use Rattle.access.specs.LoadsAndStores.{accessed}
-use Rattle.access.specs.Theorems.{load-ram}
+use Rattle.access.proofs.Theorems.{load-ram}
 use borrow.Author.Needs.{needs}
 use Rattle.access.proofs.perform.Statement.{statement}
 use Rattle.access.proofs.perform.Tie as tie

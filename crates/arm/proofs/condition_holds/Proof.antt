@@ -2,7 +2,7 @@ use mathlib.Core.Path.{sym}
 use mathlib.Core.Bool.{true}
 use lib.ListN.{List·getD-eq-default}
 use Rattle.arm.specs.Conditions.{conditions}
-use Rattle.laws.specs.Runs.{past}
+use Rattle.laws.proofs.Runs.{past}
 use Rattle.arm.proofs.condition_holds.Statement.{statement}
 use Rattle.arm.proofs.condition_holds.Tie as tie
 

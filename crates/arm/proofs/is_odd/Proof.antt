@@ -1,7 +1,7 @@
 use lib.Dec.{lit<}
 use mir.Syntax.{w64}
 use mir.ValLaws.{toZ-ofZ, sfits-le}
-use Rattle.laws.specs.Integers.{mag-quot}
+use Rattle.laws.proofs.Integers.{mag-quot}
 use Rattle.arm.proofs.Shifts.{odd-is}
 use Rattle.arm.proofs.is_odd.Statement.{statement}
 use Rattle.arm.proofs.is_odd.Tie as tie

@@ -4,7 +4,7 @@ use borrow.Author.Tests.{ne-eqb}
 use mir.Syntax.{w64}
 use mir.Val.{toZ, ofZ}
 use Rattle.bits.specs.Integers.{SInt, lowWord}
-use Rattle.laws.specs.Integers.{read}
+use Rattle.laws.proofs.Integers.{read}
 use Rattle.arm.proofs.Integers.{word, in-range}
 use borrow.Author.Needs.{needs}
 use Rattle.arm.proofs.sdiv.Statement.{statement}

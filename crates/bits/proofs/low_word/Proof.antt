@@ -8,7 +8,7 @@ use mir.Syntax.{w64}
 use mir.Val.{toZ, ofZ}
 use mir.ValLaws.{toZ-ofZ, sfits-le}
 use Rattle.bits.specs.Integers.{lowWord}
-use Rattle.laws.specs.Integers.{read, mag-quot}
+use Rattle.laws.proofs.Integers.{read, mag-quot}
 use Rattle.bits.proofs.Integers.{remains}
 use Rattle.bits.proofs.low_word.Statement.{statement}
 use Rattle.bits.proofs.low_word.Tie as tie

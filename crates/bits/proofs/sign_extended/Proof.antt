@@ -5,7 +5,7 @@ use native.Mathlib.Omega.{arith}
 use lib.Pow.{pow-pos}
 use mir.Syntax.{w64}
 use mir.ValLaws.{toZ-pos}
-use Rattle.laws.specs.Integers.{read}
+use Rattle.laws.proofs.Integers.{read}
 use Rattle.bits.proofs.Integers.{no-sign}
 use borrow.Author.Needs.{needs}
 use Rattle.bits.proofs.sign_extended.Statement.{statement}

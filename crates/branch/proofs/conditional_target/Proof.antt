@@ -3,7 +3,7 @@ use mir.Val.{toZ, ofZ}
 use mathlib.Core.Path.{_≡_, ap, _∙_}
 use native.Mathlib.Omega.{arith}
 use Rattle.bits.specs.Integers.{SInt}
-use Rattle.bits.specs.Theorems.{sint-mag}
+use Rattle.bits.proofs.Theorems.{sint-mag}
 use Rattle.branch.specs.Branches.{targetOf}
 use Rattle.branch.proofs.Laws.{offset-read}
 use borrow.Author.Needs.{needs}

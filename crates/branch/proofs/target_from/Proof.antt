@@ -5,7 +5,7 @@ use lib.IntN.{pos, _+ℤ_, _*ℤ_}
 use mir.Syntax.{w64}
 use mir.Val.{toZ, ofZ}
 use mir.ValLaws.{toZ-ofZ}
-use Rattle.laws.specs.Integers.{read}
+use Rattle.laws.proofs.Integers.{read}
 use Rattle.branch.specs.Branches.{bundleAt}
 use Rattle.branch.proofs.Laws.{double-fits, sum-small, sum-read}
 use borrow.Author.Needs.{needs}

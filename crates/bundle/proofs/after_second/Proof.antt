@@ -1,5 +1,5 @@
 use mathlib.Core.Path.{_∙_}
-use Rattle.prefix.specs.Reach.{insert}
+use Rattle.prefix.specs.LargestSuccessor.{insert}
 use Rattle.bundle.proofs.Laws.{one-more}
 use borrow.Author.Needs.{needs}
 use Rattle.bundle.proofs.after_second.Statement.{statement}

@@ -3,9 +3,9 @@ use Prim.Native.Nat.{_-_, _≤_}
 use native.Mathlib.Omega.{arith}
 use borrow.Author.Tests.{not-true, not-false}
 use Rattle.page.specs.Page.{bundlesIn}
-use Rattle.page.specs.Theorems.{fitting}
+use Rattle.page.proofs.Theorems.{fitting}
 use Rattle.prefix.specs.Prefix.{scanBack}
-use Rattle.prefix.specs.Theorems.{single-pass-is, scan-turn, scan-end}
+use Rattle.prefix.proofs.Theorems.{single-pass-is, scan-turn, scan-end}
 use Rattle.bundle.specs.Successors.{successorsOf}
 use Rattle.count.specs.Count.{countOf}
 use Rattle.count.proofs.Laws.{turn}

@@ -1,10 +1,9 @@
 use Rattle.access.specs.Outcomes.{didOf, ramOf}
-use Rattle.effects.specs.ServiceEffects.{noneDid, leavesNone}
-use Rattle.effects.specs.ServiceEffects.{serviceDoes}
+use Rattle.effects.specs.ServiceEffects.{noneDid, leavesNone, serviceDoes}
 use mathlib.Core.Path.{refl, _∙_}
 use denote.Ref.{now}
 use Rattle.effects.proofs.Laws.{none-did, none-ram, lower-ram}
-use Rattle.access.specs.Theorems.{load-ram}
+use Rattle.access.proofs.Theorems.{load-ram}
 use borrow.Author.Needs.{needs}
 use Rattle.effects.proofs.serve.Statement.{statement}
 use Rattle.effects.proofs.serve.Tie as tie

@@ -3,7 +3,7 @@ use Prim.Native.Nat.{_+_, _-_, _^_, _≤_, _<_}
 use native.Mathlib.Omega.{arith}
 use borrow.Author.Needs.{needs}
 use Rattle.endian.specs.LittleEndian.{loadLE}
-use Rattle.endian.specs.Theorems.{load-step, load-start, load-end, load-short, width-le}
+use Rattle.endian.proofs.Theorems.{load-step, load-start, load-end, load-short, width-le}
 use Rattle.endian.proofs.load.Statement.{statement}
 use Rattle.endian.proofs.load.Tie as tie
 

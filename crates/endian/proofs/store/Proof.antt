@@ -4,7 +4,7 @@ use native.Mathlib.Omega.{arith}
 use borrow.Author.Needs.{needs}
 use lib.ListN.{length, length-set}
 use Rattle.endian.specs.LittleEndian.{storeLE}
-use Rattle.endian.specs.Theorems.{store-step, store-start, store-end, width-le}
+use Rattle.endian.proofs.Theorems.{store-step, store-start, store-end, width-le}
 use Rattle.endian.proofs.store.Statement.{statement}
 use Rattle.endian.proofs.store.Tie as tie
 

@@ -1,5 +1,5 @@
 use borrow.Author.Tests.{lt-leb}
-use Rattle.laws.specs.Runs.{past}
+use Rattle.laws.proofs.Runs.{past}
 use Rattle.form.proofs.base_fits.Statement.{statement}
 use Rattle.form.proofs.base_fits.Tie as tie
 

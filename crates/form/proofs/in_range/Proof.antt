@@ -2,7 +2,7 @@ use mathlib.Core.Path.{sym, _∙_}
 use native.Mathlib.Omega.{arith}
 use borrow.Author.Tests.{not-true, not-false, lt-leb, le-leb}
 use borrow.Author.Needs.{needs}
-use Rattle.form.specs.Ranges.{tests}
+use Rattle.form.proofs.Ranges.{tests}
 use Rattle.form.proofs.in_range.Statement.{statement}
 use Rattle.form.proofs.in_range.Tie as tie
 

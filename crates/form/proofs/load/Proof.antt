@@ -6,7 +6,7 @@ use borrow.Author.Needs.{needs}
 use Rattle.refusal.specs.declared.Refusal.the-variants.{FormLength, FormRange}
 use Rattle.refusal.specs.declared.Verdict.the-variants.{Accepted, Refused}
 use Rattle.layout.specs.StoredForm.{storedForm, decode, valuesInRange}
-use Rattle.form.specs.Verdicts.{other-length, out-of-range, accepted, loaded}
+use Rattle.form.proofs.Verdicts.{other-length, out-of-range, accepted, loaded}
 use Rattle.form.proofs.load.Statement.{statement}
 use Rattle.form.proofs.load.Tie as tie
 

@@ -6,7 +6,7 @@ use borrow.Author.Needs.{needs}
 use Rattle.refusal.specs.declared.Refusal.the-variants.{FormLength, FormRange}
 use Rattle.refusal.specs.declared.Verdict.the-variants.{Accepted, Refused}
 use Rattle.layout.specs.StoredForm.{valuesInRange, valuesOf, recordBytes}
-use Rattle.form.specs.Verdicts.{other-length, out-of-range, accepted, room-after}
+use Rattle.form.proofs.Verdicts.{other-length, out-of-range, accepted, room-after}
 use Rattle.form.proofs.store.Statement.{statement}
 use Rattle.form.proofs.store.Tie as tie
 

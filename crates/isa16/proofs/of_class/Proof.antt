@@ -3,7 +3,7 @@ use Prim.Native.Nat.{_/_, _^_}
 use native.Mathlib.Omega.{arith}
 use lib.Dec.{eqb, lit<}
 use borrow.Author.Tests.{eqb-true}
-use Rattle.laws.specs.Runs.{past}
+use Rattle.laws.proofs.Runs.{past}
 use Rattle.bits.specs.Fields.{bits}
 use Rattle.isa.specs.Patterns.{matches}
 use Rattle.isa.specs.ListedEncodings.{imm5-m-d, m-n-d, d-imm8, t-imm8, imm6Of}

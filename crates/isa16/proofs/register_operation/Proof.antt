@@ -1,7 +1,7 @@
 use mathlib.Core.Path.{refl}
 use Prim.Native.Nat.{_≤_}
 use native.Mathlib.Omega.{arith}
-use Rattle.laws.specs.Runs.{past}
+use Rattle.laws.proofs.Runs.{past}
 use Rattle.isa.specs.Patterns.{matches}
 use Rattle.isa16.proofs.Classes.{by-ten}
 use borrow.Author.Needs.{needs}

@@ -1,6 +1,6 @@
 use mathlib.Core.Path.{refl}
 use Rattle.isa.specs.ListedEncodings.{arithmetic32, decodeBy}
-use Rattle.isa.specs.Theorems.{patternAt}
+use Rattle.isa.specs.Rows.{patternAt}
 use Rattle.isa32.proofs.Masks.{miss, by-mask}
 use borrow.Author.Needs.{needs}
 use Rattle.isa32.proofs.arithmetic.Statement.{statement}

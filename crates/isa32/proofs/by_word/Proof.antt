@@ -1,6 +1,7 @@
 use mathlib.Core.Path.{refl}
 use Rattle.isa.specs.ListedEncodings.{listed32, decodeBy}
-use Rattle.isa.specs.Theorems.{patternAt, apart32}
+use Rattle.isa.specs.Rows.{patternAt}
+use Rattle.isa.proofs.Theorems.{apart32}
 use Rattle.isa32.proofs.Masks.{miss, by-mask}
 use borrow.Author.Needs.{needs}
 use Rattle.isa32.proofs.by_word.Statement.{statement}

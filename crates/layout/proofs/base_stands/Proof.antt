@@ -4,7 +4,7 @@ use mathlib.Core.List.{[], _∷_}
 use lib.Dec.{eqb}
 use lib.ListN.{List·getD-eq-default}
 use borrow.Author.Needs.{needs}
-use Rattle.laws.specs.Runs.{past}
+use Rattle.laws.proofs.Runs.{past}
 use Rattle.layout.proofs.base_stands.Statement.{statement}
 use Rattle.layout.proofs.base_stands.Tie as tie
 

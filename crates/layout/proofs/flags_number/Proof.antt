@@ -1,6 +1,6 @@
 use native.Mathlib.Omega.{arith}
 use borrow.Author.Needs.{needs}
-use Rattle.layout.specs.Laws.{bit-small}
+use Rattle.layout.proofs.Fields.{bit-small}
 use Rattle.layout.proofs.flags_number.Statement.{statement}
 use Rattle.layout.proofs.flags_number.Tie as tie
 

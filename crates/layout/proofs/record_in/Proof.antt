@@ -2,7 +2,7 @@ use mathlib.Core.Path.{ap, _∙_}
 use lib.Dec.{lit<}
 use borrow.Author.Needs.{needs}
 use Rattle.layout.specs.StoredForm.{storedForm, recordOf}
-use Rattle.layout.specs.Laws.{decode-below}
+use Rattle.layout.proofs.Fields.{decode-below}
 use Rattle.layout.proofs.record_in.Statement.{statement}
 use Rattle.layout.proofs.record_in.Tie as tie
 

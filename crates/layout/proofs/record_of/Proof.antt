@@ -1,6 +1,6 @@
 use native.Mathlib.Omega.{arith}
 use borrow.Author.Needs.{needs}
-use Rattle.layout.specs.Laws.{elements-are}
+use Rattle.layout.proofs.Fields.{elements-are}
 use Rattle.layout.proofs.record_of.Statement.{statement}
 use Rattle.layout.proofs.record_of.Tie as tie
 

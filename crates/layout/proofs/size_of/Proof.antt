@@ -7,10 +7,9 @@ use native.Mathlib.Omega.{arith}
 use lib.Dec.{eqb}
 use borrow.Author.Tests.{eqb-true}
 use borrow.Author.Needs.{needs}
-use Rattle.laws.specs.Runs.{NoneOf, isIn, no-key, run}
-use Rattle.laws.specs.Tests.{either}
-use Rattle.layout.specs.StoredForm.{storedForm}
-use Rattle.layout.specs.Laws.{widthAt}
+use Rattle.laws.proofs.Runs.{NoneOf, isIn, no-key, run}
+use Rattle.laws.proofs.Tests.{either}
+use Rattle.layout.specs.StoredForm.{storedForm, widthAt}
 use Rattle.layout.proofs.size_of.Statement.{statement}
 use Rattle.layout.proofs.size_of.Tie as tie
 

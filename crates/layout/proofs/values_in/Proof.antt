@@ -3,9 +3,9 @@ use Prim.Native.Nat.{_-_, _≤_}
 use native.Mathlib.Omega.{arith}
 use lib.ListN.{length, take, length-set}
 use Rattle.endian.specs.LittleEndian.{widthOf}
-use Rattle.endian.specs.Theorems.{width-le}
+use Rattle.endian.proofs.Theorems.{width-le}
 use Rattle.layout.specs.StoredForm.{storedForm, lengthOf, decode}
-use Rattle.layout.specs.Laws.{length-at-most}
+use Rattle.layout.proofs.Fields.{length-at-most}
 use Rattle.layout.proofs.Laws.{next, read-one, all-read}
 use Rattle.layout.proofs.values_in.Statement.{statement}
 use Rattle.layout.proofs.values_in.Tie as tie

@@ -1,5 +1,5 @@
 use borrow.Author.Needs.{needs}
-use Rattle.layout.specs.Laws.{whole}
+use Rattle.layout.proofs.Fields.{whole}
 use Rattle.layout.proofs.values_of.Statement.{statement}
 use Rattle.layout.proofs.values_of.Tie as tie
 

@@ -3,9 +3,9 @@ use Prim.Native.Nat.{_-_, _≤_}
 use native.Mathlib.Omega.{arith}
 use lib.ListN.{length, take}
 use Rattle.endian.specs.LittleEndian.{widthOf}
-use Rattle.endian.specs.Theorems.{width-le, length-store}
+use Rattle.endian.proofs.Theorems.{width-le, length-store}
 use Rattle.layout.specs.StoredForm.{storedForm, lengthOf, encode}
-use Rattle.layout.specs.Laws.{length-at-most}
+use Rattle.layout.proofs.Fields.{length-at-most}
 use Rattle.layout.proofs.Laws.{next, written, all-written}
 use Rattle.layout.proofs.write_values.Statement.{statement}
 use Rattle.layout.proofs.write_values.Tie as tie

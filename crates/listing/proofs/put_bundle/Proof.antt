@@ -3,7 +3,7 @@ use Prim.Native.Nat.{ℕ, _≤_}
 use native.Mathlib.Omega.{arith}
 use lib.ListN.{length}
 use borrow.Author.Needs.{needs}
-use Rattle.page.specs.Theorems.{fitting}
+use Rattle.page.proofs.Theorems.{fitting}
 use Rattle.report.proofs.Text.{Put, behind, end-behind, extended}
 use Rattle.listing.specs.Listing.{lineOf}
 use Rattle.listing.proofs.Lengths.{line-length}

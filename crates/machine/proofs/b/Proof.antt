@@ -1,4 +1,4 @@
-use Rattle.branch.specs.Theorems.{near-b}
+use Rattle.branch.proofs.Theorems.{near-b}
 use borrow.Author.Needs.{needs}
 use Rattle.machine.proofs.b.Statement.{statement}
 use Rattle.machine.proofs.b.Tie as tie

@@ -1,5 +1,5 @@
 use native.Mathlib.Omega.{arith}
-use Rattle.branch.specs.Theorems.{near-conditional}
+use Rattle.branch.proofs.Theorems.{near-conditional}
 use Rattle.machine.proofs.Laws.{branching}
 use borrow.Author.Needs.{needs}
 use Rattle.machine.proofs.bcc.Statement.{statement}

@@ -13,7 +13,7 @@ cast-set-place c = let h = rw (c .before .t .given .1) at (c .before .before .be
 
 returns : tie.Need-returns
 unfolding branchTo
-returns c = λ m. rw (c .before .enum-told .given .1) (c .marked .ensures)
+returns c = λ m. rw (c .before .enum-told .given .1) (c .unlisted .ensures)
 
 returns-2 : tie.Need-returns-2
 unfolding branchTo executedOf

@@ -3,7 +3,7 @@ use mathlib.Core.Path.{ap}
 use mathlib.Core.Bool.{not}
 use Prim.Native.Nat.{ℕ}
 use lib.Dec.{eqb}
-use Rattle.branch.specs.Theorems.{near-compare}
+use Rattle.branch.proofs.Theorems.{near-compare}
 use Rattle.machine.proofs.Laws.{branching}
 use borrow.Author.Needs.{needs}
 use Rattle.machine.proofs.cbnz.Statement.{statement}

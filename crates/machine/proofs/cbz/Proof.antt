@@ -2,7 +2,7 @@ use native.Mathlib.Omega.{arith}
 use mathlib.Core.Path.{ap}
 use Prim.Native.Nat.{ℕ}
 use lib.Dec.{eqb}
-use Rattle.branch.specs.Theorems.{near-compare}
+use Rattle.branch.proofs.Theorems.{near-compare}
 use Rattle.machine.proofs.Laws.{branching}
 use borrow.Author.Needs.{needs}
 use Rattle.machine.proofs.cbz.Statement.{statement}

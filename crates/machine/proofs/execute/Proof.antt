@@ -13,7 +13,7 @@ returns c = rw (← c .before .before .before .before .instruction-at .ensures) 
 
 returns-2 : tie.Need-returns-2
 unfolding instructionOf instructionAt effectOf ramOf
-returns-2 c = rw (le-ltb _ _ (c .before .if1 .left)) (c .marked .ensures, refl)
+returns-2 c = rw (le-ltb _ _ (c .before .if1 .left)) (c .unlisted .ensures, refl)
 
 pub execute-spec : {M : Type 1} → statement M
 execute-spec = tie.close (tie.spec (λ c. search needs) (λ c. search needs) (λ c. search needs)

@@ -40,7 +40,7 @@ returns-7 c = rw (c .before .before .before .before .before .i7 .given .1) (c .b
 
 returns-8 : tie.Need-returns-8
 unfolding effectOf ramOf
-returns-8 c = rw (c .before .enum-told .given .1) (c .marked .ensures, refl)
+returns-8 c = rw (c .before .enum-told .given .1) (c .unlisted .ensures, refl)
 
 pub perform-spec : {M : Type 1} → statement M
 perform-spec = tie.close (tie.spec (λ c. search needs) (λ c. search needs) (λ c. search needs)

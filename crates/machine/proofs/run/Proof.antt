@@ -1,6 +1,6 @@
 use mathlib.Core.Path.{sym, _∙_}
-use Rattle.page.specs.Theorems.{fitting}
-use Rattle.admission.specs.Theorems.{accepted-page}
+use Rattle.page.proofs.Theorems.{fitting}
+use Rattle.admission.proofs.Theorems.{accepted-page}
 use borrow.Author.Needs.{needs}
 use Rattle.machine.proofs.run.Statement.{statement}
 use Rattle.machine.proofs.run.Tie as tie

@@ -5,7 +5,7 @@ use native.Mathlib.Omega.{arith}
 use lib.ListN.{length}
 use mathlib.Core.Path.{_≡_, refl, sym, _∙_}
 use Rattle.plain.specs.PlainMachine.{plain}
-use Rattle.plain.specs.Theorems.{spent}
+use Rattle.plain.proofs.Theorems.{spent}
 use Rattle.instruction.specs.Instructions.{instructionOf}
 use Rattle.machine.proofs.Laws.{turns}
 use Rattle.machine.proofs.run_on.Statement.{statement}

@@ -39,7 +39,7 @@ returns-3 c = rw (
 
 returns-4 : tie.Need-returns-4
 unfolding servedBy ramOf
-returns-4 c = rw (serving _ _ _ _ _ _ _ (c .before .before .before .before .before .service-of .ensures) (c .before .before .before .ending-of .ensures), c .before .enum-told4 .given .1) (c .marked .ensures, refl)
+returns-4 c = rw (serving _ _ _ _ _ _ _ (c .before .before .before .before .before .service-of .ensures) (c .before .before .before .ending-of .ensures), c .before .enum-told4 .given .1) (c .unlisted .ensures, refl)
 
 pub serve-spec : {M : Type 1} → statement M
 serve-spec = tie.close (tie.spec (λ c. search needs) (λ c. search needs) (λ c. search needs)

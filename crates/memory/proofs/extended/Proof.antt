@@ -2,7 +2,7 @@ use mathlib.Core.Path.{_≡_, _∙_}
 use Prim.Native.Nat.{_*_}
 use native.Mathlib.Omega.{arith}
 use Rattle.endian.specs.LittleEndian.{widthOf}
-use Rattle.endian.specs.Theorems.{width-le}
+use Rattle.endian.proofs.Theorems.{width-le}
 use Rattle.memory.proofs.Laws.{extends}
 use Rattle.memory.proofs.extended.Statement.{statement}
 use Rattle.memory.proofs.extended.Tie as tie

@@ -1,5 +1,5 @@
 use native.Mathlib.Omega.{arith}
-use Rattle.endian.specs.Theorems.{width-le}
+use Rattle.endian.proofs.Theorems.{width-le}
 use Rattle.memory.specs.Memory.{externalLoaded, externalPage}
 use Rattle.memory.proofs.Laws.{inside, past, clipped}
 use borrow.Author.Needs.{needs}

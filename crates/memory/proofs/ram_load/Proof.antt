@@ -1,5 +1,5 @@
 use native.Mathlib.Omega.{arith}
-use Rattle.endian.specs.Theorems.{width-le}
+use Rattle.endian.proofs.Theorems.{width-le}
 use Rattle.memory.specs.Memory.{ramLoaded}
 use Rattle.memory.proofs.Laws.{inside, past}
 use borrow.Author.Needs.{needs}

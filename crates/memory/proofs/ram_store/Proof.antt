@@ -1,6 +1,6 @@
 use mathlib.Core.Path.{refl}
 use native.Mathlib.Omega.{arith}
-use Rattle.endian.specs.Theorems.{width-le}
+use Rattle.endian.proofs.Theorems.{width-le}
 use Rattle.memory.specs.Memory.{ramStored, ramAfter}
 use Rattle.memory.proofs.Laws.{inside, past}
 use borrow.Author.Needs.{needs}

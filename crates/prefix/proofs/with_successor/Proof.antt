@@ -1,6 +1,6 @@
 use mathlib.Core.Path.{ap}
 use native.Mathlib.Omega.{arith}
-use Rattle.prefix.specs.declared.Reach.the-variants.{Largest}
+use Rattle.prefix.specs.declared.LargestSuccessor.the-variants.{Largest}
 use borrow.Author.Needs.{needs}
 use Rattle.prefix.proofs.with_successor.Statement.{statement}
 use Rattle.prefix.proofs.with_successor.Tie as tie

@@ -26,8 +26,8 @@ put-inside-requires c κs = omega fields-grow
 push-requires-4 : tie.Need-push-requires-4
 push-requires-4 c κs = omega fields-grow
 
-put-reach-requires : tie.Need-put-reach-requires
-put-reach-requires c κs = omega fields-grow
+put-largest-requires : tie.Need-put-largest-requires
+put-largest-requires c κs = omega fields-grow
 
 push-requires-5 : tie.Need-push-requires-5
 push-requires-5 c κs = omega fields-grow
@@ -47,11 +47,11 @@ returns c =
     then halves .before .before .before .put-hex .ensures then halves .before .before .push2 .ensures
     then halves .before .put-hex2 .ensures then halves .push3 .ensures
     then line .before .before .before .put-inside .ensures then line .before .before .push4 .ensures
-    then line .before .put-reach .ensures then line .push5 .ensures
+    then line .before .put-largest .ensures then line .push5 .ensures
     in
     rw (whole (number .before .before .fresh .ensures) text) at (c .before .before .emit .ensures)
 
 pub bundle-line-spec : {M : Type 1} → statement M
 bundle-line-spec = tie.close (tie.spec (λ c. search needs) (λ c. search needs) push-requires
     put-hex-requires push-requires-2 put-hex-requires-2 push-requires-3 put-inside-requires
-    push-requires-4 put-reach-requires push-requires-5 emit-requires (λ c. search needs) returns)
+    push-requires-4 put-largest-requires push-requires-5 emit-requires (λ c. search needs) returns)

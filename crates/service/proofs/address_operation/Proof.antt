@@ -2,7 +2,7 @@ use mathlib.Core.Path.{_≡_, sym, _∙_}
 use mathlib.Core.List.{List}
 use lib.ListN.{getD, List·getD-eq-default}
 use Rattle.bits.specs.Fields.{bit}
-use Rattle.laws.specs.Runs.{past}
+use Rattle.laws.proofs.Runs.{past}
 use Rattle.service.specs.declared.Service.{Service}
 use Rattle.service.specs.declared.Service.the-variants.{Bad}
 use Rattle.service.specs.Services.{operations, addressOperationOf}

@@ -1,7 +1,7 @@
 use mathlib.Core.Path.{sym}
 use mathlib.Core.List.{[], _∷_}
 use lib.ListN.{List·getD-eq-default}
-use Rattle.laws.specs.Runs.{past}
+use Rattle.laws.proofs.Runs.{past}
 use Rattle.service.specs.declared.Service.the-variants.{Call, TailCall, Bad}
 use Rattle.service.specs.Services.{callOf}
 use borrow.Author.Needs.{needs}

@@ -2,7 +2,7 @@ use Prim.Native.Nat.{_-_, _≤_}
 use mathlib.Core.Path.{_≡_, refl, ap, _∙_}
 use native.Mathlib.Omega.{arith}
 use lib.ListN.{length}
-use Rattle.endian.specs.Theorems.{length-store}
+use Rattle.endian.proofs.Theorems.{length-store}
 use borrow.Author.Needs.{needs}
 use Rattle.steps.proofs.assemble.Statement.{statement}
 use Rattle.steps.proofs.assemble.Tie as tie

@@ -1,0 +1,220 @@
+-- What an instruction leaves is fit: records by their SP and base, and RAM by its length.
+use Prim.Native.Nat.{ℕ, _+_, _-_, _*_, _%_, _^_, _≤_}
+use native.Mathlib.Omega.{arith}
+use mathlib.Core.Bool.{Bool, true, false, _&&_, cond}
+use mathlib.Core.List.{List}
+use mathlib.Core.Path.{_≡_, refl, _∙_}
+use lib.Dec.{eqb, ltb, leb}
+use lib.ListN.{length}
+use borrow.Author.Tests.{ltb-false, lt-ltb, leb-true, le-leb, eqb-true, eq-eqb}
+use Rattle.laws.proofs.Tests.{both}
+use Rattle.endian.specs.LittleEndian.{widthOf, storeLE}
+use Rattle.endian.proofs.Theorems.{length-store}
+use Rattle.endian.specs.declared.Size.{Size}
+use Rattle.endian.specs.declared.Size.the-variants.{Byte, Halfword, Word}
+use Rattle.isa.specs.declared.Access.{Access}
+use Rattle.isa.specs.declared.Access.the-variants.{LdrLit, StrSp, LdrSp, Str, Strb, Strh, Ldr, Ldrb, Ldrh, Ldrsb, Ldrsh}
+use Rattle.isa.specs.declared.Operation.{Operation}
+use Rattle.isa.specs.declared.Operation.the-variants.{LslImm, LsrImm, AsrImm, AddReg, SubReg, AddImm3, SubImm3, MovImm, CmpImm, AddImm, SubImm, And, Eor, LslReg, LsrReg, AsrReg, Adc, Sbc, RorReg, Tst, Rsb, CmpReg, Cmn, Orr, Mul, Bic, Mvn, MovReg, AddSp, Sxth, Sxtb, Uxth, Uxtb, Nop, Movw, Movt, Sdiv, Udiv}
+use Rattle.service.specs.declared.Service.{Service}
+use Rattle.service.specs.declared.Service.the-variants.{Return, Call, TailCall, Syscall, TailSyscall, LongBranch, Preload, SetBase, StoreAtSp, LoadAtSp, LowerSp, DirectSyscall, Validate, Breakpoint, CallRegister, TailCallRegister, Bad}
+use Rattle.memory.specs.Memory.{insideRam, ramAfter, storedBy, afterStoreBy, signedLoaded}
+use Rattle.memory.specs.declared.Fault.the-variants.{LowStack}
+use Rattle.memory.specs.declared.Loaded.{Loaded}
+use Rattle.memory.specs.declared.Loaded.the-variants.{Value}
+use Rattle.memory.specs.declared.Loaded.the-variants as loaded
+use Rattle.memory.specs.declared.Stored.{Stored}
+use Rattle.memory.specs.declared.Stored.the-variants.{Done}
+use Rattle.memory.specs.declared.Stored.the-variants as stored
+use Rattle.state.specs.Record.{register, withRegister, withSp, withFlags, withBase, spFits, baseFits, fitRecord}
+use Rattle.state.specs.Validation.{validated}
+use Rattle.state.specs.declared.Base.{Base}
+use Rattle.state.specs.declared.Base.the-variants.{Nothing, Ram, External}
+use Rattle.state.specs.declared.Record.{Record}
+use Rattle.compute.specs.Computed.{computed}
+use Rattle.access.specs.Outcomes.{Outcome, does, fails, loadTo, storeWith}
+use Rattle.access.specs.LoadsAndStores.{stackLoaded, stackStored, afterStackStore, storeAt, literalLoaded, storeBase, loadedBase, accessed}
+use Rattle.effects.specs.ServiceEffects.{leavesNone, lowerSp, setBase, serviceDoes}
+
+-- ---- records
+
+-- a data-processing instruction changes registers and flags alone
+pub computed-fits : (operation : Operation) (r : Record) (external : ℕ) → fitRecord r external ≡ true
+    → fitRecord (computed operation r) external ≡ true
+unfolding fitRecord withRegister withFlags
+computed-fits (LslImm imm5 m d) r external h = h
+computed-fits (LsrImm imm5 m d) r external h = h
+computed-fits (AsrImm imm5 m d) r external h = h
+computed-fits (AddReg m n d) r external h = h
+computed-fits (SubReg m n d) r external h = h
+computed-fits (AddImm3 imm3 n d) r external h = h
+computed-fits (SubImm3 imm3 n d) r external h = h
+computed-fits (MovImm d imm8) r external h = h
+computed-fits (CmpImm n imm8) r external h = h
+computed-fits (AddImm d imm8) r external h = h
+computed-fits (SubImm d imm8) r external h = h
+computed-fits (And m d) r external h = h
+computed-fits (Eor m d) r external h = h
+computed-fits (LslReg m d) r external h = h
+computed-fits (LsrReg m d) r external h = h
+computed-fits (AsrReg m d) r external h = h
+computed-fits (Adc m d) r external h = h
+computed-fits (Sbc m d) r external h = h
+computed-fits (RorReg m d) r external h = h
+computed-fits (Tst m n) r external h = h
+computed-fits (Rsb n d) r external h = h
+computed-fits (CmpReg m n) r external h = h
+computed-fits (Cmn m n) r external h = h
+computed-fits (Orr m d) r external h = h
+computed-fits (Mul n d) r external h = h
+computed-fits (Bic m d) r external h = h
+computed-fits (Mvn m d) r external h = h
+computed-fits (MovReg m d) r external h = h
+computed-fits (AddSp d imm8) r external h = h
+computed-fits (Sxth m d) r external h = h
+computed-fits (Sxtb m d) r external h = h
+computed-fits (Uxth m d) r external h = h
+computed-fits (Uxtb m d) r external h = h
+computed-fits Nop r external h = h
+computed-fits (Movw imm16 d) r external h = h
+computed-fits (Movt imm16 d) r external h = h
+computed-fits (Sdiv n d m) r external h = h
+computed-fits (Udiv n d m) r external h = h
+
+base-fits : (r : Record) (b : Base) (external : ℕ) → baseFits b external ≡ true → fitRecord r external ≡ true
+    → fitRecord (withBase r b) external ≡ true
+unfolding fitRecord withBase
+base-fits r b external e f = rw (both (spFits (r .sp)) (baseFits (r .base) external) f .0) e
+
+validated-fits : (v external : ℕ) → baseFits (validated v external) external ≡ true
+unfolding validated
+validated-fits v external = go (ltb v 0x80000000) (ltb (v - 0x80000000) external) refl
+  where
+    go : (s t : Bool) → ltb (v - 0x80000000) external ≡ t
+        → baseFits (cond s (Ram ((v + 2 ^ 20 - 0x10000) % 2 ^ 20)) (cond t (External (v - 0x80000000)) Nothing)) external ≡ true
+    go true t e = lt-ltb ((v + 2 ^ 20 - 0x10000) % 2 ^ 20) (2 ^ 20) (omega arith)
+    go false true e = e
+    go false false e = refl
+
+-- SP less some words, if it doesn't fall below 0x10000
+less-fits : (sp words : ℕ) → 0x10000 + 4 * words ≤ sp → spFits sp ≡ true → spFits (sp - 4 * words) ≡ true
+less-fits sp words l h =
+    let parts = both (leb 0x10000 sp && leb sp 0x18000) (eqb (sp % 4) 0) h in
+    let top = leb-true sp 0x18000 (both (leb 0x10000 sp) (leb sp 0x18000) (parts .0) .1) in
+    let aligned = eqb-true (sp % 4) 0 (parts .1) in
+    rw (le-leb 0x10000 (sp - 4 * words) (omega arith), le-leb (sp - 4 * words) 0x18000 (omega arith))
+    (eq-eqb ((sp - 4 * words) % 4) 0 (omega arith))
+
+lower-fits : (r : Record) (words external : ℕ) → 0x10000 + 4 * words ≤ r .sp → fitRecord r external ≡ true
+    → fitRecord (withSp r (r .sp - 4 * words)) external ≡ true
+unfolding fitRecord withSp
+lower-fits r words external l f =
+    let parts = both (spFits (r .sp)) (baseFits (r .base) external) f in
+    rw (less-fits (r .sp) words l (parts .0)) (parts .1)
+
+-- ---- RAM keeps its length
+
+ram-length : (ram : List ℕ) (at : ℕ) (size : Size) (x : ℕ) → length (ramAfter ram at size x) ≡ length ram
+unfolding ramAfter
+ram-length ram at size x = go (insideRam at size)
+  where
+    go : (t : Bool) → length (cond t (storeLE (widthOf size) ram at x) ram) ≡ length ram
+    go true = length-store (widthOf size) ram at x
+    go false = refl
+
+stack-length : (ram : List ℕ) (address x : ℕ) → length (afterStackStore ram address x) ≡ length ram
+unfolding afterStackStore
+stack-length ram address x = go (ltb address 0x10000)
+  where
+    go : (t : Bool) → length (cond t ram (ramAfter ram (address - 0x10000) Word x)) ≡ length ram
+    go true = refl
+    go false = ram-length ram (address - 0x10000) Word x
+
+base-length : (b : Base) (ram : List ℕ) (imm12 : ℕ) (size : Size) (x : ℕ) → length (afterStoreBy b ram imm12 size x) ≡ length ram
+unfolding afterStoreBy
+base-length Nothing ram imm12 size x = refl
+base-length (Ram offset) ram imm12 size x = ram-length ram (offset + imm12) size x
+base-length (External offset) ram imm12 size x = refl
+
+-- ---- outcomes
+
+-- what is done leaves a fit record and RAM of its size
+abbrev pub Leaves : ℕ → Outcome → Type 0
+Leaves external (does r ram) = (fitRecord r external ≡ true) × (length ram ≡ 32768)
+Leaves external (fails fault) = Unit {0}
+
+none-after : (external : ℕ) (o : Outcome) → Leaves external o → Leaves external (leavesNone o)
+unfolding leavesNone
+none-after external (does r ram) h = (base-fits r Nothing external refl (h .0), h .1)
+none-after external (fails fault) h = tt
+
+module _ (external : ℕ) (r : Record) (ram : List ℕ) (f : fitRecord r external ≡ true) (e : length ram ≡ 32768) where
+  load-leaves : (t : ℕ) (l : Loaded) → Leaves external (loadTo r ram t l)
+  unfolding loadTo fitRecord withRegister
+  load-leaves t (Value x) = (f, e)
+  load-leaves t (loaded.Fails fault) = tt
+
+  store-leaves : (s : Stored) (after : List ℕ) → length after ≡ length ram → Leaves external (storeWith r s after)
+  unfolding storeWith
+  store-leaves Done after l = (f, l ∙ e)
+  store-leaves (stored.Fails fault) after l = tt
+
+  stack-store : (t address : ℕ) → Leaves external (storeAt r ram t address)
+  stack-store t address =
+      store-leaves (stackStored address) (afterStackStore ram address (register r t)) (stack-length ram address (register r t))
+
+  base-store : (size : Size) (t imm12 : ℕ) → Leaves external (storeBase r ram size t imm12)
+  base-store size t imm12 =
+      store-leaves (storedBy (r .base) imm12 size) (afterStoreBy (r .base) ram imm12 size (register r t))
+      (base-length (r .base) ram imm12 size (register r t))
+
+  pub accessed-leaves : (page bytes : List ℕ) (access : Access) → Leaves external (accessed page bytes access r ram)
+  unfolding accessed
+  accessed-leaves page bytes (LdrLit t imm8) = load-leaves t (literalLoaded page (r .place) imm8)
+  accessed-leaves page bytes (StrSp t imm8) = stack-store t (r .sp + 4 * imm8)
+  accessed-leaves page bytes (LdrSp t imm8) = load-leaves t (stackLoaded ram (r .sp + 4 * imm8))
+  accessed-leaves page bytes (Str t imm12) = base-store Word t imm12
+  accessed-leaves page bytes (Strb t imm12) = base-store Byte t imm12
+  accessed-leaves page bytes (Strh t imm12) = base-store Halfword t imm12
+  accessed-leaves page bytes (Ldr n t imm12) = load-leaves t (loadedBase r ram bytes Word n imm12)
+  accessed-leaves page bytes (Ldrb n t imm12) = load-leaves t (loadedBase r ram bytes Byte n imm12)
+  accessed-leaves page bytes (Ldrh n t imm12) = load-leaves t (loadedBase r ram bytes Halfword n imm12)
+  accessed-leaves page bytes (Ldrsb n t imm12) = load-leaves t (signedLoaded Byte (loadedBase r ram bytes Byte n imm12))
+  accessed-leaves page bytes (Ldrsh n t imm12) = load-leaves t (signedLoaded Halfword (loadedBase r ram bytes Halfword n imm12))
+
+  -- ---- services
+
+  none-leaves : Leaves external (leavesNone (does r ram))
+  none-leaves = none-after external (does r ram) (f, e)
+
+  base-leaves : (v : ℕ) → Leaves external (setBase r ram v external)
+  base-leaves v = (base-fits r (validated v external) external (validated-fits v external) f, e)
+
+  lower-leaves : (words : ℕ) → Leaves external (lowerSp r ram words)
+  unfolding lowerSp
+  lower-leaves words = go (ltb (r .sp) (0x10000 + 4 * words)) refl
+    where
+      go : (t : Bool) → ltb (r .sp) (0x10000 + 4 * words) ≡ t
+          → Leaves external (cond t (fails LowStack) (does (withSp r (r .sp - 4 * words)) ram))
+      go true l = tt
+      go false l = (lower-fits r words external (ltb-false (r .sp) (0x10000 + 4 * words) l) f, e)
+
+  pub service-leaves : (s : Service) → Leaves external (serviceDoes external s r ram)
+  unfolding serviceDoes
+  service-leaves Return = none-leaves
+  service-leaves Call = none-leaves
+  service-leaves TailCall = none-leaves
+  service-leaves Syscall = none-leaves
+  service-leaves TailSyscall = none-leaves
+  service-leaves LongBranch = none-leaves
+  service-leaves Preload = none-leaves
+  service-leaves (SetBase a) = base-leaves a
+  service-leaves (StoreAtSp t a) = none-after external _ (stack-store t (r .sp + a))
+  service-leaves (LoadAtSp t a) = none-after external _ (load-leaves t (stackLoaded ram (r .sp + a)))
+  service-leaves (LowerSp words) = none-after external _ (lower-leaves words)
+  service-leaves (DirectSyscall n) = none-leaves
+  service-leaves (Validate n) = base-leaves (register r n)
+  service-leaves Breakpoint = none-leaves
+  service-leaves (CallRegister n) = none-leaves
+  service-leaves (TailCallRegister n) = none-leaves
+  service-leaves Bad = none-leaves

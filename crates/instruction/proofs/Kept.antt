@@ -1,0 +1,161 @@
+-- From a fit record, place and RAM an instruction goes on or exits with fit ones, an exit being by a service that stands there, or
+-- it meets one of the six faults; and a fit place starts a listed instruction.
+use Prim.Native.Nat.{ℕ, _*_}
+use native.Mathlib.Omega.{arith}
+use mathlib.Core.Bool.{Bool, true, false, not}
+use mathlib.Core.List.{List}
+use mathlib.Core.Path.{_≡_, refl, ap, _∙_}
+use lib.Dec.{eqb}
+use lib.IntN.{pos}
+use lib.ListN.{length}
+use Rattle.bits.specs.Fields.{bits}
+use Rattle.bits.specs.Integers.{SInt}
+use Rattle.arm.specs.Conditions.{conditionHolds}
+use Rattle.page.specs.Page.{pageFits}
+use Rattle.isa.specs.declared.Instruction.{Instruction}
+use Rattle.isa.specs.declared.Instruction.the-variants.{Data, Memory, Cbz, Cbnz, Bcc, B, Unlisted}
+use Rattle.isa.specs.declared.Instruction.the-variants as instruction
+use Rattle.branch.specs.Branches.{targetOf}
+use Rattle.branch.specs.declared.Target.{Target}
+use Rattle.branch.specs.declared.Target.the-variants.{At}
+use Rattle.branch.specs.declared.Target.the-variants as target
+use Rattle.service.specs.Services.{serviceOf, endingOf}
+use Rattle.service.specs.declared.Ending.{Ending}
+use Rattle.service.specs.declared.Ending.the-variants as ending
+use Rattle.service.specs.declared.Service.{Service}
+use Rattle.service.specs.declared.Service.the-variants.{Return, Call, TailCall, Syscall, TailSyscall, LongBranch, Preload, SetBase, StoreAtSp, LoadAtSp, LowerSp, DirectSyscall, Validate, Breakpoint, CallRegister, TailCallRegister, Bad}
+use Rattle.bundle.specs.Flow.{endsFlow, jumpTo, serviceJump, flowBy, flowOf}
+use Rattle.memory.specs.Faults.{faultNumber}
+use Rattle.memory.specs.declared.Fault.{Fault}
+use Rattle.memory.specs.declared.Fault.the-variants.{NoBase, PastRam, OffExternalPage, PastStack, LowStack, PastPage}
+use Rattle.state.specs.Record.{register, withPlace, fitRecord}
+use Rattle.state.specs.declared.Record.{Record}
+use Rattle.compute.specs.Computed.{computed}
+use Rattle.access.specs.Outcomes.{Outcome, does, fails}
+use Rattle.access.specs.LoadsAndStores.{accessed}
+use Rattle.effects.specs.ServiceEffects.{serviceDoes}
+use Rattle.plain.specs.PlainMachine.{Effect, goesOn, exits}
+use Rattle.place.specs.Places.{instructionAt, following, fitPlace}
+use Rattle.series.specs.Keeps.{Keeps}
+use Rattle.instruction.specs.Instructions.{endAt, branchTo, branchIf, exitOf, servedBy, served, effectOf, instructionOf}
+use Rattle.instruction.specs.Fitness.{Fit, Starts, ServiceAt, exitColumn, Known}
+use Rattle.instruction.proofs.FitPlaces.{LeadsFrom, leads, leads-listed}
+use Rattle.instruction.proofs.FitRecords.{Leaves, computed-fits, accessed-leaves, service-leaves}
+
+known : (f : Fault) → Known (faultNumber f)
+known NoBase = omega arith
+known PastRam = omega arith
+known OffExternalPage = omega arith
+known PastStack = omega arith
+known LowStack = omega arith
+known PastPage = omega arith
+
+-- ---- the exit column and how a service ends
+
+abbrev isExit : Ending → Bool
+isExit ending.GoesOn = false
+isExit ending.Exit = true
+isExit ending.LastExit = true
+isExit ending.Bad = false
+
+column : (s : Service) → exitColumn s ≡ isExit (endingOf s)
+column Return = refl
+column Call = refl
+column TailCall = refl
+column Syscall = refl
+column TailSyscall = refl
+column LongBranch = refl
+column Preload = refl
+column (SetBase a) = refl
+column (StoreAtSp t a) = refl
+column (LoadAtSp t a) = refl
+column (LowerSp words) = refl
+column (DirectSyscall n) = refl
+column (Validate n) = refl
+column Breakpoint = refl
+column (CallRegister n) = refl
+column (TailCallRegister n) = refl
+column Bad = refl
+
+-- ---- each way to go on or to exit
+
+module _ (page external : List ℕ) (r : Record) (ram : List ℕ) (f : Fit page external r ram) where
+  abbrev Kept : Effect → Type 0
+  Kept = Keeps (Fit page external) (ServiceAt page r) Known
+
+  -- a fit record and RAM, at a fit place
+  fit-at : (s : Record) (after : List ℕ) (place : ℕ) → Leaves (length external) (does s after) → fitPlace page place ≡ true
+      → Fit page external (withPlace s place) after
+  unfolding fitRecord withPlace
+  fit-at s after place h p = record { recordFits = h .0; placeFits = p; ramFits = h .1 }
+
+  end-kept : (end : Record → List ℕ → Effect) → ((s : Record) (after : List ℕ) → Fit page external s after → Kept (end s after))
+      → (place : ℕ) (o : Outcome) → Leaves (length external) o → fitPlace page place ≡ true → Kept (endAt end place o)
+  unfolding endAt
+  end-kept end k place (does s after) h p = k _ _ (fit-at s after place h p)
+  end-kept end k place (fails fault) h p = known fault
+
+  unchanged : Leaves (length external) (does r ram)
+  unchanged = (f .recordFits, f .ramFits)
+
+  branch-kept : (t : Target) → LeadsFrom page (r .place) (flowBy true (jumpTo t)) → Kept (branchTo r ram t)
+  unfolding branchTo
+  branch-kept target.Bad h = absurd h
+  branch-kept (At b) h = fit-at r ram (2 * b) unchanged h
+
+  if-kept : (taken : Bool) (t : Target) → LeadsFrom page (r .place) (flowBy false (jumpTo t))
+      → Kept (branchIf taken r ram (following page (r .place)) t)
+  unfolding branchIf branchTo
+  if-kept taken target.Bad h = absurd h
+  if-kept true (At b) h = fit-at r ram (2 * b) unchanged (h .0)
+  if-kept false (At b) h = fit-at r ram (following page (r .place)) unchanged (h .1)
+
+  -- ---- a service, by how it ends
+
+  exits-here : (n : ℕ) → instructionAt page (r .place) ≡ instruction.Service n → isExit (endingOf (serviceOf page n)) ≡ true
+      → ServiceAt page r (exitOf page n)
+  exits-here n s e = record { low = n; stands = s; reports = refl; column = column (serviceOf page n) ∙ e }
+
+  service-kept : (n : ℕ) → instructionAt page (r .place) ≡ instruction.Service n
+      → (e : Ending) → endingOf (serviceOf page n) ≡ e → LeadsFrom page (r .place) (flowBy (endsFlow e) (serviceJump e))
+      → (o : Outcome) → Leaves (length external) o
+      → Kept (servedBy e (exitOf page n) (r .place) (following page (r .place)) o)
+  unfolding servedBy
+  service-kept n s ending.GoesOn e h o l = end-kept goesOn (λ _ _ k. k) (following page (r .place)) o l h
+  service-kept n s ending.Exit e h o l =
+      end-kept (exits (exitOf page n)) (λ _ _ k. (k, exits-here n s (ap isExit e))) (following page (r .place)) o l h
+  service-kept n s ending.LastExit e h o l =
+      end-kept (exits (exitOf page n)) (λ _ _ k. (k, exits-here n s (ap isExit e))) (r .place) o l (f .placeFits)
+  service-kept n s ending.Bad e h o l = absurd h
+
+  -- ---- every instruction
+
+  each-kept : (i : Instruction) → instructionAt page (r .place) ≡ i → LeadsFrom page (r .place) (flowOf page (r .place) i)
+      → Kept (effectOf page external r ram i)
+  unfolding flowOf effectOf served
+  each-kept (Data operation) s h =
+      end-kept goesOn (λ _ _ k. k) (following page (r .place)) (does (computed operation r) ram)
+      (computed-fits operation r (length external) (f .recordFits), f .ramFits) h
+  each-kept (Memory access) s h =
+      end-kept goesOn (λ _ _ k. k) (following page (r .place)) (accessed page external access r ram)
+      (accessed-leaves (length external) r ram (f .recordFits) (f .ramFits) page external access) h
+  each-kept (Cbz imm6 n) s h = if-kept (eqb (register r n) 0) (targetOf (r .place) (pos imm6)) h
+  each-kept (Cbnz imm6 n) s h = if-kept (not (eqb (register r n) 0)) (targetOf (r .place) (pos imm6)) h
+  each-kept (Bcc condition imm8) s h = if-kept (conditionHolds condition (r .flags)) (targetOf (r .place) (SInt 8 imm8)) h
+  each-kept (B imm11) s h = branch-kept (targetOf (r .place) (SInt 11 (bits imm11 10 0))) h
+  each-kept (instruction.Service n) s h =
+      service-kept n s (endingOf (serviceOf page n)) refl h (serviceDoes (length external) (serviceOf page n) r ram)
+      (service-leaves (length external) r ram (f .recordFits) (f .ramFits) (serviceOf page n))
+  each-kept Unlisted s h = absurd h
+
+pub keeps : (page external : List ℕ) → pageFits page ≡ true → (r : Record) (ram : List ℕ)
+    → Fit page external r ram → Keeps (Fit page external) (ServiceAt page r) Known (instructionOf page external r ram)
+unfolding instructionOf
+keeps page external e r ram f =
+    each-kept page external r ram f (instructionAt page (r .place)) refl (leads page e (r .place) (f .placeFits))
+
+pub starts : (page external : List ℕ) → pageFits page ≡ true → (r : Record) (ram : List ℕ) → Fit page external r ram → Starts page r
+starts page external e r ram f = record {
+  placeFits = f .placeFits;
+  isListed = leads-listed page (r .place) (instructionAt page (r .place)) (leads page e (r .place) (f .placeFits));
+}

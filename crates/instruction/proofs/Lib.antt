@@ -1,0 +1,5 @@
+pub mod FitPlaces
+pub mod FitRecords
+pub mod Kept
+pub mod ReadsAtPlace
+pub mod Unlisted

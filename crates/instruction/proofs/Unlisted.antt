@@ -1,0 +1,113 @@
+-- When an instruction answers with the mark: exactly when nothing listed stands at the place, or its service is bad, or the target
+-- that it takes is.
+use Prim.Native.Nat.{ℕ}
+use mathlib.Core.Bool.{Bool, true, false, not, true≢false}
+use mathlib.Core.List.{List}
+use mathlib.Core.Logic.{_↔_}
+use mathlib.Core.Path.{_≡_, refl, ap}
+use lib.Dec.{eqb}
+use lib.IntN.{pos}
+use lib.ListN.{length}
+use borrow.Author.Tests.{eqb-true, eqb-false, eq-eqb, ne-eqb, not-true}
+use Rattle.bits.specs.Fields.{bits}
+use Rattle.bits.specs.Integers.{SInt}
+use Rattle.arm.specs.Conditions.{conditionHolds}
+use Rattle.isa.specs.declared.Instruction.{Instruction}
+use Rattle.isa.specs.declared.Instruction.the-variants.{Data, Memory, Cbz, Cbnz, Bcc, B, Service, Unlisted}
+use Rattle.branch.specs.Branches.{targetOf}
+use Rattle.branch.specs.declared.Target.{Target}
+use Rattle.branch.specs.declared.Target.the-variants.{At}
+use Rattle.branch.specs.declared.Target.the-variants as target
+use Rattle.service.specs.Services.{serviceOf, endingOf}
+use Rattle.service.specs.declared.Ending.{Ending}
+use Rattle.service.specs.declared.Ending.the-variants as ending
+use Rattle.service.specs.declared.Service.{Service as AnyService}
+use Rattle.service.specs.declared.Service.the-variants as service
+use Rattle.state.specs.Record.{register}
+use Rattle.state.specs.declared.Record.{Record}
+use Rattle.access.specs.Outcomes.{Outcome, does, fails}
+use Rattle.effects.specs.ServiceEffects.{serviceDoes}
+use Rattle.stop.specs.Stops.{Exit}
+use Rattle.plain.specs.PlainMachine.{goesOn, exits, unlisted}
+use Rattle.place.specs.Places.{instructionAt, following}
+use Rattle.instruction.specs.Instructions.{endAt, branchTo, branchIf, exitOf, servedBy, served, effectOf, instructionOf}
+use Rattle.instruction.specs.AtPlace.{Meaningless}
+
+-- ---- what answers with it
+
+not-on : (place : ℕ) (o : Outcome) → endAt goesOn place o ≡ unlisted → ⊥
+unfolding endAt
+not-on place (does r ram) e = true≢false cc
+not-on place (fails fault) e = true≢false cc
+
+not-exit : (exit : Exit) (place : ℕ) (o : Outcome) → endAt (exits exit) place o ≡ unlisted → ⊥
+unfolding endAt
+not-exit exit place (does r ram) e = true≢false cc
+not-exit exit place (fails fault) e = true≢false cc
+
+bad-target : (r : Record) (ram : List ℕ) (t : Target) → branchTo r ram t ≡ unlisted ↔ t ≡ target.Bad
+unfolding branchTo
+bad-target r ram target.Bad = (λ e. refl, λ e. refl)
+bad-target r ram (At b) = (λ e. cc, λ e. cc)
+
+bad-taken : (taken : Bool) (r : Record) (ram : List ℕ) (next : ℕ) (t : Target)
+    → branchIf taken r ram next t ≡ unlisted ↔ (taken ≡ true) × (t ≡ target.Bad)
+unfolding branchIf
+bad-taken true r ram next t = let bad = bad-target r ram t in (λ e. (refl, bad .0 e), λ h. bad .1 (h .1))
+bad-taken false r ram next t = (λ e. (cc, cc), λ h. cc)
+
+bad-served : (e : Ending) (exit : Exit) (here next : ℕ) (o : Outcome) → servedBy e exit here next o ≡ unlisted ↔ e ≡ ending.Bad
+unfolding servedBy
+bad-served ending.GoesOn exit here next o = (λ e. absurd (not-on next o e), λ e. cc)
+bad-served ending.Exit exit here next o = (λ e. absurd (not-exit exit next o e), λ e. cc)
+bad-served ending.LastExit exit here next o = (λ e. absurd (not-exit exit here o e), λ e. cc)
+bad-served ending.Bad exit here next o = (λ e. refl, λ e. refl)
+
+bad-ending : (s : AnyService) → endingOf s ≡ ending.Bad → s ≡ service.Bad
+bad-ending service.Return e = cc
+bad-ending service.Call e = cc
+bad-ending service.TailCall e = cc
+bad-ending service.Syscall e = cc
+bad-ending service.TailSyscall e = cc
+bad-ending service.LongBranch e = cc
+bad-ending service.Preload e = cc
+bad-ending (service.SetBase a) e = cc
+bad-ending (service.StoreAtSp t a) e = cc
+bad-ending (service.LoadAtSp t a) e = cc
+bad-ending (service.LowerSp words) e = cc
+bad-ending (service.DirectSyscall n) e = cc
+bad-ending (service.Validate n) e = cc
+bad-ending service.Breakpoint e = cc
+bad-ending (service.CallRegister n) e = cc
+bad-ending (service.TailCallRegister n) e = cc
+bad-ending service.Bad e = refl
+
+-- ---- every instruction
+
+unlisted-each : (page external : List ℕ) (r : Record) (ram : List ℕ) (i : Instruction)
+    → effectOf page external r ram i ≡ unlisted ↔ Meaningless page r i
+unfolding effectOf served
+unlisted-each page external r ram (Data operation) = (not-on _ _, λ h. absurd h)
+unlisted-each page external r ram (Memory access) = (not-on _ _, λ h. absurd h)
+unlisted-each page external r ram (Cbz imm6 n) =
+    let bad = bad-taken (eqb (register r n) 0) r ram (following page (r .place)) (targetOf (r .place) (pos imm6)) in
+    (λ e. (eqb-true (register r n) 0 (bad .0 e .0), bad .0 e .1), λ h. bad .1 (eq-eqb (register r n) 0 (h .0), h .1))
+unlisted-each page external r ram (Cbnz imm6 n) =
+    let zero = eqb (register r n) 0 in
+    let bad = bad-taken (not zero) r ram (following page (r .place)) (targetOf (r .place) (pos imm6)) in
+    let say : not zero ≡ true ↔ (register r n ≡ 0 → ⊥) = (λ e. eqb-false _ _ (not-true zero e), λ h. rw (ne-eqb _ _ h)) in
+    (λ e. (say .0 (bad .0 e .0), bad .0 e .1), λ h. bad .1 (say .1 (h .0), h .1))
+unlisted-each page external r ram (Bcc condition imm8) =
+    bad-taken (conditionHolds condition (r .flags)) r ram (following page (r .place)) (targetOf (r .place) (SInt 8 imm8))
+unlisted-each page external r ram (B imm11) = bad-target r ram (targetOf (r .place) (SInt 11 (bits imm11 10 0)))
+unlisted-each page external r ram (Service n) =
+    let s = serviceOf page n in
+    let bad = bad-served (endingOf s) (exitOf page n) (r .place) (following page (r .place)) (serviceDoes (length external) s r ram) in
+    (λ e. bad-ending s (bad .0 e), λ h. bad .1 (ap endingOf h))
+unlisted-each page external r ram Unlisted = (λ e. tt, λ h. refl)
+
+pub unlisted-iff : (page external : List ℕ) (r : Record) (ram : List ℕ)
+    → (instructionOf page external r ram ≡ unlisted → Meaningless page r (instructionAt page (r .place)))
+    × (Meaningless page r (instructionAt page (r .place)) → instructionOf page external r ram ≡ unlisted)
+unfolding instructionOf
+unlisted-iff page external r ram = unlisted-each page external r ram (instructionAt page (r .place))

@@ -1,0 +1,4 @@
+pub mod Differences
+pub mod Integers
+pub mod Runs
+pub mod Tests

@@ -1,4 +1,0 @@
-pub mod Tests
-pub mod Runs
-pub mod Differences
-pub mod Integers
