@@ -14,7 +14,7 @@ use Rattle.isa.specs.ListedEncodings.{opens32, decode16Of, decode32Of}
 use Rattle.bundle.specs.Flow.{flowOf, listed}
 use Rattle.bundle.specs.Successors.{afterSecond, afterFirst, wide, narrow, successorsOf, Few}
 use Rattle.bundle.specs.declared.Flow.{Flow}
-use Rattle.bundle.specs.declared.Flow.the-variants.{Bad, Next, NextOr, To, Stop}
+use Rattle.bundle.specs.declared.Flow.the-variants.{Bad, Next, NextOr, To, Ends}
 use Rattle.bundle.specs.Reader.{readBundle}
 
 pub read-accepted : (page : List ℕ) (k : ℕ) → pageFits page ≡ true → k < bundlesIn page → readBundle page k .largest ≡ largestSuccessor (successorsOf page k)
@@ -35,14 +35,14 @@ more ss l h = (omega arith, h .1)
 
 few-second : (bs : List ℕ) (second : Flow) (next : ℕ) → (length bs ≤ 1) × Ascending bs → Few (afterSecond bs second next)
 few-second bs Bad next h = tt
-few-second bs Stop next h = more bs (omega arith) h
+few-second bs Ends next h = more bs (omega arith) h
 few-second bs (To b) next h = more (insert b bs) (omega arith) (one-more b 1 bs h)
 few-second bs Next next h = more (insert next bs) (omega arith) (one-more next 1 bs h)
 few-second bs (NextOr b) next h = one-more b 2 (insert next bs) (one-more next 1 bs h)
 
 few-first : (first : Flow) (secondListed : Bool) (second : Flow) (next : ℕ) → Few (afterFirst first secondListed second next)
 few-first Bad l second next = tt
-few-first Stop l second next = either-few l (goes []) bad (omega arith, tt) tt
+few-first Ends l second next = either-few l (goes []) bad (omega arith, tt) tt
 few-first (To b) l second next = either-few l (goes (b ∷ [])) bad (omega arith, (tt, tt)) tt
 few-first Next l second next = few-second [] second next (omega arith, tt)
 few-first (NextOr b) l second next = few-second (b ∷ []) second next (omega arith, (tt, tt))

@@ -19,7 +19,7 @@ use Rattle.bundle.specs.declared.Jump.{Jump}
 use Rattle.bundle.specs.declared.Jump.the-variants.{NoJump, JumpTo}
 use Rattle.bundle.specs.declared.Jump.the-variants as jump
 use Rattle.bundle.specs.declared.Flow.{Flow}
-use Rattle.bundle.specs.declared.Flow.the-variants.{Bad, Next, NextOr, To, Stop}
+use Rattle.bundle.specs.declared.Flow.the-variants.{Bad, Next, NextOr, To, Ends}
 
 -- ---- terminators
 
@@ -69,7 +69,7 @@ jumpOf page place Unlisted = jump.Bad
 
 abbrev pub flowBy : Bool → Jump → Flow
 flowBy terminates jump.Bad = Bad
-flowBy terminates NoJump = cond terminates Stop Next
+flowBy terminates NoJump = cond terminates Ends Next
 flowBy terminates (JumpTo b) = cond terminates (To b) (NextOr b)
 
 unfoldable pub flowOf : List ℕ → ℕ → Instruction → Flow

@@ -10,12 +10,12 @@ use Rattle.isa.specs.ListedEncodings.{opens32, decode16Of, decode32Of}
 use Rattle.isa.specs.declared.Instruction.{Instruction}
 use Rattle.bundle.specs.Flow.{flowOf, listed}
 use Rattle.bundle.specs.declared.Flow.{Flow}
-use Rattle.bundle.specs.declared.Flow.the-variants.{Bad, Next, NextOr, To, Stop}
+use Rattle.bundle.specs.declared.Flow.the-variants.{Bad, Next, NextOr, To, Ends}
 
 -- the second instruction, behind a first one that goes on and has the targets bs
 abbrev pub afterSecond : List ℕ → Flow → ℕ → Successors
 afterSecond bs Bad next = bad
-afterSecond bs Stop next = goes bs
+afterSecond bs Ends next = goes bs
 afterSecond bs (To b) next = goes (insert b bs)
 afterSecond bs Next next = goes (insert next bs)
 afterSecond bs (NextOr b) next = goes (insert b (insert next bs))
@@ -23,7 +23,7 @@ afterSecond bs (NextOr b) next = goes (insert b (insert next bs))
 -- behind a terminator the second must match a listed encoding, and brings no successor
 abbrev pub afterFirst : Flow → Bool → Flow → ℕ → Successors
 afterFirst Bad secondListed second next = bad
-afterFirst Stop secondListed second next = cond secondListed (goes []) bad
+afterFirst Ends secondListed second next = cond secondListed (goes []) bad
 afterFirst (To b) secondListed second next = cond secondListed (goes (b ∷ [])) bad
 afterFirst Next secondListed second next = afterSecond [] second next
 afterFirst (NextOr b) secondListed second next = afterSecond (b ∷ []) second next

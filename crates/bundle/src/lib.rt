@@ -31,7 +31,7 @@ pub enum Flow {
     Next,
     NextOr(u32),
     To(u32),
-    Stop,
+    Ends,
 }
 
 // What the reader answers.
@@ -109,7 +109,7 @@ fn flow_by(terminates: bool, jump: Jump) -> Flow
 {
     match jump {
         Jump::Bad => Flow::Bad,
-        Jump::NoJump => { if terminates { Flow::Stop } else { Flow::Next } }
+        Jump::NoJump => { if terminates { Flow::Ends } else { Flow::Next } }
         Jump::JumpTo(b) => {
             if terminates {
                 Flow::To(b)
@@ -149,7 +149,7 @@ fn after_second(r: LargestSuccessor, second: Flow, next: u32) -> LargestSuccesso
 {
     match second {
         Flow::Bad => LargestSuccessor::Bad,
-        Flow::Stop => r,
+        Flow::Ends => r,
         Flow::To(b) => prefix::with_successor(r, b),
         Flow::Next => prefix::with_successor(r, next),
         Flow::NextOr(b) => prefix::with_successor(prefix::with_successor(r, next), b),
@@ -162,7 +162,7 @@ fn after_first(first: Flow, listed: bool, second: Flow, next: u32) -> LargestSuc
 {
     match first {
         Flow::Bad => LargestSuccessor::Bad,
-        Flow::Stop => {
+        Flow::Ends => {
             if listed {
                 LargestSuccessor::Nothing
             } else {

@@ -7,6 +7,7 @@ use Rattle.prefix.specs.Prefix.{greatestClosed}
 use Rattle.bundle.specs.Successors.{successorsOf}
 use Rattle.count.specs.declared.Counted.{Counted}
 
+-- the build paper's count
 abbrev pub countOf : List ℕ → ℕ
 countOf page = greatestClosed (successorsOf page) (bundlesIn page)
 

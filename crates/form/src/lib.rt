@@ -15,7 +15,7 @@ pub struct ReadBack {
 
 // ---- the range
 
-fn base_fits(kind: u32, offset: u32) -> bool
+fn base_in_range(kind: u32, offset: u32) -> bool
     ensures { λ t. ⌜ t ≡ (kindInRange kind kind && offsetInRange kind offset) ⌝ }
 {
     match kind {
@@ -32,7 +32,7 @@ fn in_range(values: [u32; 13]) -> bool
     if !state::sp_fits(values[8]) {
         return false;
     }
-    if !base_fits(values[9], values[10]) {
+    if !base_in_range(values[9], values[10]) {
         return false;
     }
     if values[11] > 127 {

@@ -22,7 +22,7 @@ use Rattle.bundle.specs.declared.Jump.{Jump}
 use Rattle.bundle.specs.declared.Jump.the-variants.{NoJump, JumpTo}
 use Rattle.bundle.specs.declared.Jump.the-variants as jump
 use Rattle.bundle.specs.declared.Flow.{Flow}
-use Rattle.bundle.specs.declared.Flow.the-variants.{Bad, Next, NextOr, To, Stop}
+use Rattle.bundle.specs.declared.Flow.the-variants.{Bad, Next, NextOr, To, Ends}
 use Rattle.count.specs.Count.{countOf, countPage}
 use Rattle.place.specs.Places.{isEven, standsIn, instructionAt, following, secondFits, fitPlace}
 
@@ -32,7 +32,7 @@ Leads Target Behind Bad = ⊥
 Leads Target Behind Next = Behind
 Leads Target Behind (NextOr b) = Target b × Behind
 Leads Target Behind (To b) = Target b
-Leads Target Behind Stop = Unit {0}
+Leads Target Behind Ends = Unit {0}
 
 leads-map : {Target Target′ : ℕ → Type 0} {Behind Behind′ : Type 0} → ((b : ℕ) → Target b → Target′ b) → (Behind → Behind′)
     → (f : Flow) → Leads Target Behind f → Leads Target′ Behind′ f
@@ -40,7 +40,7 @@ leads-map t n Bad h = h
 leads-map t n Next h = n h
 leads-map t n (NextOr b) h = (t b (h .0), n (h .1))
 leads-map t n (To b) h = t b h
-leads-map t n Stop h = h
+leads-map t n Ends h = h
 
 -- ---- two 16-bit instructions of a bundle that lies within m
 
@@ -48,7 +48,7 @@ leads-map t n Stop h = h
 second-leads : (m next : ℕ) (bs : List ℕ) (f : Flow) → Within m (afterSecond bs f next)
     → Leads (λ b. b < m) (next < m) f × AllBelow m bs
 second-leads m next bs Bad h = absurd h
-second-leads m next bs Stop h = (tt, h)
+second-leads m next bs Ends h = (tt, h)
 second-leads m next bs (To b) h = insert-below m b bs h
 second-leads m next bs Next h = insert-below m next bs h
 second-leads m next bs (NextOr b) h =

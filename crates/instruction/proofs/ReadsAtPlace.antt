@@ -8,7 +8,7 @@ use Rattle.isa.specs.declared.Access.{Access}
 use Rattle.isa.specs.declared.Access.the-variants.{LdrLit, StrSp, LdrSp, Str, Strb, Strh, Ldr, Ldrb, Ldrh, Ldrsb, Ldrsh}
 use Rattle.isa.specs.declared.Instruction.{Instruction}
 use Rattle.isa.specs.declared.Instruction.the-variants.{Data, Memory, Cbz, Cbnz, Bcc, B, Service, Unlisted}
-use Rattle.service.specs.Services.{serviceOf, byLiteral}
+use Rattle.service.specs.Services.{serviceOf, literalService}
 use Rattle.state.specs.declared.Record.{Record}
 use Rattle.access.specs.LoadsAndStores.{literalLoaded, accessed}
 use Rattle.place.specs.Places.{instructionAt, following}
@@ -32,7 +32,7 @@ module _ (page other external : List ℕ) (r : Record) (ram : List ℕ) (same : 
   access-same (Ldrsh n t imm12) w = refl
 
   service-same : (n : ℕ) → wordAt page n ≡ wordAt other n → serviceOf page n ≡ serviceOf other n
-  unfolding serviceOf byLiteral
+  unfolding serviceOf literalService
   service-same n w = rw (same, w)
 
   exit-same : (n : ℕ) → wordAt page n ≡ wordAt other n → exitOf page n ≡ exitOf other n

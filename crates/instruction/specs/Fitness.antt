@@ -15,6 +15,7 @@ use Rattle.stop.specs.Stops.{Exit}
 use Rattle.place.specs.Places.{instructionAt, fitPlace}
 use Rattle.instruction.specs.Instructions.{exitOf}
 
+-- a fit record with a fit place, and RAM of its size
 pub record Fit (page external : List ℕ) (r : Record) (ram : List ℕ) : Type 0 where
   pub recordFits : fitRecord r (length external) ≡ true
   pub placeFits : fitPlace page (r .place) ≡ true

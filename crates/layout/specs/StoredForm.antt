@@ -38,7 +38,7 @@ placeInRange kind x = leb x 127
 abbrev pub flagsInRange : ℕ → ℕ → Bool
 flagsInRange kind x = leb x 15
 
--- r0 to r7, SP, base kind, offset, place, flags
+-- the build paper's stored form: r0 to r7, SP, base kind, offset, place, flags
 abbrev pub storedForm : List Field
 storedForm =
     field 4 anyWord

@@ -277,7 +277,7 @@ fn run_on(page: &[u8], external: &[u8], start: Record, ram: &mut [u8], budget: u
     stopped(Stop::Budget, steps, r)
 }
 
-// A run with a budget.
+// A run with the build paper's budget.
 pub fn run(page: &[u8], ram: &mut [u8], external: &[u8], r: Record, budget: u32) -> Answer
     ensures { λ a. ⌜ Gives (now (page .entry)) (now (external .entry)) budget r (now (ram .entry)) a (now (ram .exit)) ⌝ }
 {
@@ -292,7 +292,7 @@ pub fn run(page: &[u8], ram: &mut [u8], external: &[u8], r: Record, budget: u32)
     }
 }
 
-// A step is a run with budget 1.
+// The build paper's step: a run with budget 1.
 pub fn step(page: &[u8], ram: &mut [u8], external: &[u8], r: Record) -> Answer
     ensures { λ a. ⌜ Gives (now (page .entry)) (now (external .entry)) 1 r (now (ram .entry)) a (now (ram .exit)) ⌝ }
 {

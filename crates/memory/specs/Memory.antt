@@ -20,7 +20,7 @@ use Rattle.memory.specs.declared.Stored.the-variants as stored
 
 -- ---- RAM, for base and stack alike: one way to read and one to write. Past its end is the given fault, and changes nothing
 
--- offset + size at most 32,768
+-- the build paper's user RAM, of 32,768 bytes: offset + size at most that
 abbrev pub insideRam : ℕ → Size → Bool
 insideRam at size = leb (at + widthOf size) 32768
 

@@ -8,7 +8,7 @@ ghost use Rattle.memory.specs.Memory.{ramLoaded, ramStored, ramAfter, ex
 use endian::Size;
 use state::Base;
 
-// In the order of the build paper's numbers, 1 to 6.
+// The build paper's faults, in the order of their numbers, 1 to 6.
 pub enum Fault {
     NoBase,
     PastRam,

@@ -7,7 +7,7 @@ use lib.ListN.{length, getD}
 use Rattle.refusal.specs.Refusals.{Rule, rule}
 use Rattle.refusal.specs.declared.Refusal.the-variants.{PageLength}
 
--- 0 to 256 bytes, a multiple of 4
+-- the build paper's page: 0 to 256 bytes, a multiple of 4
 unfoldable pub pageFits : List ℕ → Bool
 pageFits page = leb (length page) 256 && eqb (length page % 4) 0
 
@@ -15,13 +15,14 @@ pageFits page = leb (length page) 256 && eqb (length page % 4) 0
 abbrev pub pageRule : List ℕ → Rule
 pageRule page = rule (not (pageFits page)) PageLength
 
+-- the build paper's bundles, of 4 bytes each
 abbrev pub bundlesIn : List ℕ → ℕ
 bundlesIn page = length page / 4
 
 abbrev pub byteAt : List ℕ → ℕ → ℕ
 byteAt page i = getD page i 0
 
--- the halfword at a place, which is a halfword number from 0: lowest byte first
+-- the halfword at a place, which is the build paper's number of a halfword, from 0: lowest byte first
 unfoldable pub halfwordAt : List ℕ → ℕ → ℕ
 halfwordAt page place = byteAt page (2 * place) + 256 * byteAt page (2 * place + 1)
 

@@ -33,7 +33,7 @@ following page place = place + cond (opens32 (firstOf page (place / 2))) 2 1
 unfoldable pub secondFits : List ℕ → ℕ → ℕ → Bool
 secondFits page first second = not (opens32 first) && not (opens32 second) && not (terminator page (decode16Of first))
 
--- its bundle lies below the count; an odd place also needs such a bundle
+-- the build paper's fit place: its bundle lies below the count; an odd place also needs such a bundle
 unfoldable pub fitPlace : List ℕ → ℕ → Bool
 fitPlace page place =
     ltb (place / 2) (countPage page .count)

@@ -1,4 +1,4 @@
--- The plain machine, over any definition of an instruction. Its state is record and RAM.
+-- The build paper's plain machine, over any definition of an instruction. Its state is record and RAM.
 use Prim.Native.Nat.{ℕ, zero, suc, _+_}
 use mathlib.Core.List.{List}
 use Rattle.memory.specs.Faults.{faultNumber}
@@ -7,8 +7,8 @@ use Rattle.state.specs.declared.Record.{Record}
 use Rattle.stop.specs.Stops.{Exit, Reason, budget, service, fault}
 use Rattle.stop.specs.Stops as stops
 
--- an instruction goes on, or exits, with a record and RAM; or it faults; or nothing listed stands there, which is the mark. The last
--- two change nothing
+-- an instruction goes on, or exits, with a record and RAM; or it faults; or what stands there is unlisted, which is the build
+-- paper's mark. The last two change nothing
 pub data Effect : Type 0 where
   goesOn : Record → List ℕ → Effect
   exits : Exit → Record → List ℕ → Effect
@@ -30,8 +30,8 @@ onward steps r ram next (exits exit s after) = record { stop = service exit; ste
 onward steps r ram next (faults f) = record { stop = fault (faultNumber f); steps = steps; rec = r; ram = ram }
 onward steps r ram next unlisted = record { stop = stops.unlisted; steps = steps; rec = r; ram = ram }
 
--- so much of the budget is left after so many steps: with nothing left it stops as "budget", else it takes the definition of the
--- instruction
+-- so much of the build paper's budget is left after so many steps: with nothing left it stops as "budget", else it takes the
+-- definition of the instruction
 unfoldable pub plain : (Record → List ℕ → Effect) → ℕ → ℕ → Record → List ℕ → Result
 plain instruction zero steps r ram = record { stop = budget; steps = steps; rec = r; ram = ram }
 plain instruction (suc left) steps r ram = onward steps r ram (plain instruction left (steps + 1)) (instruction r ram)

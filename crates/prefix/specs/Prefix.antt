@@ -18,11 +18,11 @@ abbrev pub Within : ℕ → Successors → Type 0
 Within m bad = ⊥
 Within m (goes ss) = AllBelow m ss
 
--- a prefix of m bundles is closed if all m are not bad and all their successors are below m
+-- the build paper's closed prefix: a prefix of m bundles is closed if all m are not bad and all their successors are below m
 abbrev pub Closed : (ℕ → Successors) → ℕ → Type 0
 Closed successors m = (k : ℕ) → k < m → Within m (successors k)
 
--- the count: the greatest closed m up to the page's bundles
+-- the build paper's count: the greatest closed m up to the page's bundles
 pub record Greatest (successors : ℕ → Successors) (bundles m : ℕ) : Type 0 where
   pub inside : m ≤ bundles
   pub closed : Closed successors m

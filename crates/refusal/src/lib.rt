@@ -2,7 +2,7 @@
 ghost use mathlib.Core.Path.{_≡_};
 ghost use Rattle.refusal.specs.Refusals.{refusalNumber};
 
-// In the order of the build paper's numbers, 1 to 8.
+// The build paper's refusals, in the order of their numbers, 1 to 8.
 pub enum Refusal {
     PageLength,
     RamLength,

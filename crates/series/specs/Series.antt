@@ -53,7 +53,7 @@ module _ (Setting : Type 0) (instruction : Setting → Record → List ℕ → E
       × (itsRecord ≡ true → c .rec ≡ r)
       × (itsRam ≡ true → c .ram ≡ ram)
 
-  -- what a call gave is known by its contract alone; the next one is handed what then stands
+  -- the build paper's series: what a call gave is known by its contract alone; the next one is handed what then stands
   abbrev pub Series : Setting → List SeriesCall → Record → List ℕ → Type 0
   Series setting [] r ram = Unit {0}
   Series setting (c ∷ cs) r ram =

@@ -40,15 +40,15 @@ unfoldable pub literalOf : ℕ → Service
 literalOf w = cond (bit w 31) (cond (bit w 30) (addressOperationOf w) (syscallOf w)) (callOf w)
 
 -- it must lie in the page
-unfoldable pub byLiteral : List ℕ → ℕ → Service
-byLiteral page n = cond (ltb n (bundlesIn page)) (literalOf (wordAt page n)) Bad
+unfoldable pub literalService : List ℕ → ℕ → Service
+literalService page n = cond (ltb n (bundlesIn page)) (literalOf (wordAt page n)) Bad
 
 -- ---- the low byte: 00, 01-7F, 80-BF, C0-DF, E0-E7, E8, E9-EF, F0-F7, F8-FF
 
 unfoldable pub serviceOf : List ℕ → ℕ → Service
 serviceOf page n =
     cond (leb n 0x00) Return
-    (cond (leb n 0x7F) (byLiteral page n)
+    (cond (leb n 0x7F) (literalService page n)
     (cond (leb n 0xBF) (DirectSyscall (bits n 5 0))
     (cond (leb n 0xDF) (LowerSp (bits n 4 0))
     (cond (leb n 0xE7) (Validate (bits n 2 0))

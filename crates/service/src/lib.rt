@@ -1,6 +1,6 @@
 // What a service halfword means, for the reader and the machine alike.
 ghost use mathlib.Core.Path.{_≡_};
-ghost use Rattle.service.specs.Services.{endingOf, literalOf, callOf, syscallOf, addressOperationOf, byLiteral, serviceOf};
+ghost use Rattle.service.specs.Services.{endingOf, literalOf, callOf, syscallOf, addressOperationOf, literalService, serviceOf};
 
 pub enum Service {
     Return,
@@ -132,7 +132,7 @@ pub fn literal(w: u32) -> Service
 
 // A service by the literal word at bundle n, which must lie in the page.
 fn by_literal(page: &[u8], n: u8) -> Service
-    ensures { λ r. ⌜ r ≡ byLiteral (now (page .entry)) n ⌝ }
+    ensures { λ r. ⌜ r ≡ literalService (now (page .entry)) n ⌝ }
 {
     if (n as usize) < page.len() / 4 {
         literal(page::word(page, n as u32))

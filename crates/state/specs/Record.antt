@@ -8,7 +8,7 @@ use Rattle.state.specs.declared.Base.{Base}
 use Rattle.state.specs.declared.Base.the-variants.{Nothing, Ram, External}
 use Rattle.state.specs.declared.Record.{Record}
 
--- all zero, SP 0x18000, base none
+-- the build paper's fresh record: all zero, SP 0x18000, base none
 abbrev pub freshRecord : Record
 freshRecord = record {
   regs = replicate 8 0;
@@ -46,5 +46,6 @@ baseFits Nothing external = true
 baseFits (Ram o) external = ltb o (2 ^ 20)
 baseFits (External o) external = ltb o external
 
+-- the build paper's fit record, given the external data's length
 unfoldable pub fitRecord : Record → ℕ → Bool
 fitRecord r external = spFits (r .sp) && baseFits (r .base) external

@@ -9,7 +9,7 @@ use Rattle.state.specs.declared.Base.{Base}
 use Rattle.state.specs.declared.Base.the-variants.{Nothing, Ram, External}
 use Rattle.state.specs.declared.Validated.{Validated}
 
--- external data: 0 to 16,777,216 bytes, a multiple of 256
+-- the build paper's external data: 0 to 16,777,216 bytes, a multiple of 256
 unfoldable pub externalFits : ℕ → Bool
 externalFits external = leb external 16777216 && eqb (external % 256) 0
 

@@ -7,17 +7,19 @@ use arm::Flags;
 use refusal::Refusal;
 use refusal::Verdict;
 
-// What a load or a store goes by: nothing, an offset in RAM, or an offset in the external data.
+// The build paper's base, by which loads and stores go: none, an offset in RAM, or an offset in the external data.
 pub enum Base {
     Nothing,
     Ram(u32),
     External(u32),
 }
 
+// The build paper's record.
 pub struct Record {
     pub regs: [u32; 8],
     pub sp: u32,
     pub flags: Flags,
+    // the build paper's place: the number of a halfword, from 0
     pub place: u16,
     pub base: Base,
 }

@@ -5,12 +5,12 @@ use Rattle.memory.specs.Faults.{faultNumber}
 use Rattle.stop.specs.declared.Stop.{Stop}
 use Rattle.stop.specs.declared.Stop.the-variants.{Budget, Service, ServiceBy, Fault, Unlisted, Refused}
 
--- what a service exit carries: the low byte and, for 01-7F, the literal
+-- the build paper's service exit, with what it carries: the low byte and, for 01-7F, the literal
 pub data Exit : Type 0 where
   direct : ℕ → Exit
   byLiteral : ℕ → ℕ → Exit
 
--- "budget", a service exit, a fault's number, the mark of an unlisted halfword, a refusal's number
+-- "budget", a service exit, a fault's number, an unlisted halfword with its mark, a refusal's number
 pub data Reason : Type 0 where
   budget : Reason
   service : Exit → Reason

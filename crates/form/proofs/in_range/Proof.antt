@@ -10,13 +10,13 @@ returns : tie.Need-returns
 returns c = rw (tests (c .before .before .args .t1) (omega arith), sym (c .before .sp-fits .ensures) ∙ not-true _ (c .if1 .taken))
 
 returns-2 : tie.Need-returns-2
-returns-2 c = rw (tests (c .before .before .before .before .args .t1) (omega arith), sym (c .before .before .before .sp-fits .ensures) ∙ not-false _ (c .before .before .if1 .left), sym (c .before .base-fits .ensures) ∙ not-true _ (c .if2 .taken))
+returns-2 c = rw (tests (c .before .before .before .before .args .t1) (omega arith), sym (c .before .before .before .sp-fits .ensures) ∙ not-false _ (c .before .before .if1 .left), sym (c .before .base-in-range .ensures) ∙ not-true _ (c .if2 .taken))
 
 returns-3 : tie.Need-returns-3
-returns-3 c = rw (tests (c .before .before .before .before .before .args .t1) (omega arith), sym (c .before .before .before .before .sp-fits .ensures) ∙ not-false _ (c .before .before .before .if1 .left), sym (c .before .before .base-fits .ensures) ∙ not-false _ (c .before .if2 .left), lt-leb _ _ (c .if3 .taken))
+returns-3 c = rw (tests (c .before .before .before .before .before .args .t1) (omega arith), sym (c .before .before .before .before .sp-fits .ensures) ∙ not-false _ (c .before .before .before .if1 .left), sym (c .before .before .base-in-range .ensures) ∙ not-false _ (c .before .if2 .left), lt-leb _ _ (c .if3 .taken))
 
 returns-4 : tie.Need-returns-4
-returns-4 c = rw (tests (c .before .before .before .before .before .args .t1) (omega arith), sym (c .before .before .before .before .sp-fits .ensures) ∙ not-false _ (c .before .before .before .if1 .left), sym (c .before .before .base-fits .ensures) ∙ not-false _ (c .before .if2 .left), le-leb _ _ (c .if3 .left))
+returns-4 c = rw (tests (c .before .before .before .before .before .args .t1) (omega arith), sym (c .before .before .before .before .sp-fits .ensures) ∙ not-false _ (c .before .before .before .if1 .left), sym (c .before .before .base-in-range .ensures) ∙ not-false _ (c .before .if2 .left), le-leb _ _ (c .if3 .left))
 
 pub in-range-spec : {M : Type 1} → statement M
 in-range-spec = tie.close (tie.spec (λ c. search needs) (λ c. search needs) returns
