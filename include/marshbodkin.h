@@ -66,7 +66,7 @@ enum {
 };
 
 /* What the reader says of a bundle. */
-enum { MB_REACH_BAD = 0, MB_REACH_NOTHING = 1, MB_REACH_LARGEST = 2 };
+enum { MB_SUCCESSOR_BAD = 0, MB_SUCCESSOR_NOTHING = 1, MB_SUCCESSOR_LARGEST = 2 };
 
 /* Base kinds. */
 enum { MB_BASE_NONE = 0, MB_BASE_RAM = 1, MB_BASE_EXTERNAL = 2 };
@@ -94,7 +94,7 @@ enum {
 /* The count of a page. Refused (1): count 0. */
 uint32_t mb_count(const uint8_t *page, size_t page_length, uint32_t *count);
 
-/* Bundle k of a page: kind is one of MB_REACH_*, largest the largest successor
+/* Bundle k of a page: kind is one of MB_SUCCESSOR_*, largest the largest successor
  * (0 if there is none). Refused (1, 8): a bad bundle. */
 uint32_t mb_read_bundle(const uint8_t *page, size_t page_length, uint32_t k,
                         uint32_t *kind, uint32_t *largest);

@@ -58,7 +58,7 @@ pub const RAM_LENGTH: usize = 32_768;
 
 /// What the reader says of a bundle.
 #[derive(Clone, Copy, Debug, PartialEq, Eq)]
-pub enum Reach {
+pub enum LargestSuccessor {
     Bad,
     /// No successor.
     Nothing,
@@ -74,13 +74,13 @@ pub fn count(page: &[u8]) -> Result<u32, Refusal> {
 }
 
 /// Reads a bundle of a page. Refusals: 1, 8.
-pub fn read_bundle(page: &[u8], bundle: u32) -> Result<Reach, Refusal> {
+pub fn read_bundle(page: &[u8], bundle: u32) -> Result<LargestSuccessor, Refusal> {
     let (code, kind, largest) = calls::read_bundle(page, bundle);
     verdict(code)?;
     Ok(match kind {
-        0 => Reach::Bad,
-        1 => Reach::Nothing,
-        2 => Reach::Largest(largest),
+        0 => LargestSuccessor::Bad,
+        1 => LargestSuccessor::Nothing,
+        2 => LargestSuccessor::Largest(largest),
         kind => unreachable!("the library read a bundle of kind {kind}"),
     })
 }

@@ -1,8 +1,8 @@
 //! Each function against 01: what it answers, and each refusal it has.
 
 use marshbodkin::{
-    calls, count, load, read_bundle, run, step, store, validate, Base, Fault, Flags, Reach, Record,
-    Refusal, Stop, Stopped, RAM_LENGTH, RECORD_LENGTH,
+    calls, count, load, read_bundle, run, step, store, validate, Base, Fault, Flags,
+    LargestSuccessor, Record, Refusal, Stop, Stopped, RAM_LENGTH, RECORD_LENGTH,
 };
 
 /// 01's printed page: four bundles, of which three are counted.
@@ -70,10 +70,13 @@ fn counts_and_bundles() {
     assert_eq!(count(&[]), Ok(0));
     assert_eq!(count(&page[1..]), Err(Refusal::PageLength));
 
-    assert_eq!(read_bundle(&page, 0), Ok(Reach::Largest(2)));
-    assert_eq!(read_bundle(&page, 1), Ok(Reach::Nothing));
-    assert_eq!(read_bundle(&page, 3), Ok(Reach::Largest(4)));
-    assert_eq!(read_bundle(&page_of(&[0xDE00, 0xDE00]), 0), Ok(Reach::Bad));
+    assert_eq!(read_bundle(&page, 0), Ok(LargestSuccessor::Largest(2)));
+    assert_eq!(read_bundle(&page, 1), Ok(LargestSuccessor::Nothing));
+    assert_eq!(read_bundle(&page, 3), Ok(LargestSuccessor::Largest(4)));
+    assert_eq!(
+        read_bundle(&page_of(&[0xDE00, 0xDE00]), 0),
+        Ok(LargestSuccessor::Bad)
+    );
     assert_eq!(read_bundle(&page, 4), Err(Refusal::NoSuchBundle));
     assert_eq!(read_bundle(&page[1..], 4), Err(Refusal::PageLength));
 }
