@@ -1,4 +1,4 @@
--- Demand 2, the count: the greatest closed prefix of the page's bundles.
+-- Demand 2, the count: what is claimed of a number, for a page.
 use Prim.Native.Nat.{ℕ, _≤_}
 use mathlib.Core.Path.{_≡_}
 use mathlib.Core.List.{List}

@@ -1,4 +1,4 @@
--- Demand 3, of a whole series of steps and runs.
+-- What demand 3 speaks of: what a call takes, the code's calls, and a series of them.
 use Prim.Native.Nat.{ℕ}
 use mathlib.Core.List.{List, [], _∷_}
 use Rattle.refusal.specs.declared.Verdict.{Verdict}

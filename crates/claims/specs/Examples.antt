@@ -1,4 +1,4 @@
--- The build paper's starred examples, together under one claim, by computation.
+-- The build paper's starred examples, together under one claim.
 use Prim.Native.Nat.{ℕ}
 use mathlib.Core.Path.{_≡_}
 use mathlib.Core.Bool.{true, false}

@@ -10,7 +10,7 @@ use Rattle.host.specs.Crossing.{noRecord}
 use Rattle.host.specs.declared.StopNumbers.{StopNumbers}
 
 -- a stop in numbers: the code is 0, or the refusal's number; the kind is 0 budget, 1 a service exit, 2 one with its literal, 3 a
--- fault, 4 the mark of an unlisted halfword, 5 a refusal; the value is the low byte, or the fault's or the refusal's number
+-- fault, 4 an unlisted halfword, 5 a refusal; the value is the low byte, or the fault's or the refusal's number
 abbrev pub stopNumbers : Reason → StopNumbers
 stopNumbers budget = record { code = 0; kind = 0; value = 0; literal = 0 }
 stopNumbers (service (direct n)) = record { code = 0; kind = 1; value = n; literal = 0 }

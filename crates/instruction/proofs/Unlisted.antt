@@ -1,4 +1,4 @@
--- When an instruction answers with the mark: exactly when nothing listed stands at the place, or its service is bad, or the target
+-- When an instruction is unlisted: exactly when nothing listed stands at the place, or its service is bad, or the target
 -- that it takes is.
 use Prim.Native.Nat.{ℕ}
 use mathlib.Core.Bool.{Bool, true, false, not, true≢false}

@@ -1,5 +1,5 @@
--- The definition of an instruction: it reads the page at the place and isn't given the count. A fault or the mark of what is not
--- listed changes nothing.
+-- The definition of an instruction: it reads the page at the place and isn't given the count. A fault, or what is unlisted,
+-- changes nothing.
 use Prim.Native.Nat.{ℕ, _*_}
 use mathlib.Core.Bool.{Bool, not, _&&_, cond}
 use mathlib.Core.List.{List}

@@ -62,6 +62,12 @@ abbrev pub lengthOf : List Field → ℕ
 lengthOf [] = 0
 lengthOf (field width test ∷ fields) = width + lengthOf fields
 
+-- the width of field i
+abbrev pub widthAt : List Field → ℕ → ℕ
+widthAt [] i = 0
+widthAt (field width test ∷ fields) zero = width
+widthAt (field width test ∷ fields) (suc i) = widthAt fields i
+
 abbrev pub encode : List Field → List ℕ → List ℕ
 encode [] values = []
 encode (field width test ∷ fields) [] = []
@@ -143,13 +149,9 @@ isRecord values = baseStands (getD values 9 0) (getD values 10 0) && leb (getD v
 abbrev pub holdsRecord : List ℕ → Bool
 holdsRecord bytes = eqb (length bytes) 44 && isRecord (decode storedForm bytes)
 
--- the width of field i
-abbrev pub widthAt : List Field → ℕ → ℕ
-widthAt [] i = 0
-widthAt (field width test ∷ fields) zero = width
-widthAt (field width test ∷ fields) (suc i) = widthAt fields i
+-- ---- the records of the code
 
--- the widths of a record's parts in the code
+-- by the widths of their parts
 pub record Held (r : Record) : Type 0 where
   pub eight : length (r .regs) ≡ 8
   pub words : (k : ℕ) → getD (r .regs) k 0 < 2 ^ 32

@@ -66,7 +66,7 @@ fn ended(d: Did, end: End, place: u16) -> Executed
     }
 }
 
-// The mark of what is not listed; nothing changes.
+// What is unlisted changes nothing.
 fn unlisted(r: Record) -> Executed
     ensures { λ x. ⌜ x ≡ executedOf r unlisted ⌝ }
 {

@@ -23,7 +23,7 @@ pub record Result : Type 0 where
   pub ram : List ℕ
 
 -- an instruction after so many steps: if it goes on, its record and RAM are kept and steps grow by 1; an exit does the same and
--- stops; a fault and the mark of an unlisted halfword stop and keep record, RAM and steps
+-- stops; a fault and an unlisted halfword stop and keep record, RAM and steps
 abbrev pub onward : ℕ → Record → List ℕ → (Record → List ℕ → Result) → Effect → Result
 onward steps r ram next (goesOn s after) = next s after
 onward steps r ram next (exits exit s after) = record { stop = service exit; steps = steps + 1; rec = s; ram = after }
