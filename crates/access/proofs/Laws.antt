@@ -10,25 +10,13 @@ use Rattle.endian.specs.declared.Size.the-variants.{Word}
 use Rattle.memory.specs.Memory.{insideRam, ramStored, ramAfter, storedBy, afterStoreBy}
 use Rattle.memory.specs.declared.Fault.{Fault}
 use Rattle.memory.specs.declared.Fault.the-variants.{PastRam, PastStack, LowStack}
-use Rattle.memory.specs.declared.Loaded.{Loaded}
-use Rattle.memory.specs.declared.Loaded.the-variants as loaded
 use Rattle.memory.specs.declared.Stored.{Stored}
 use Rattle.memory.specs.declared.Stored.the-variants as stored
 use Rattle.state.specs.declared.Base.{Base}
 use Rattle.state.specs.declared.Base.the-variants.{Nothing, Ram, External}
 use Rattle.state.specs.declared.Record.{Record}
-use Rattle.access.specs.Outcomes.{fails, loadTo, storeWith, didOf, ramOf, loadDid}
+use Rattle.access.specs.Outcomes.{storeWith, ramOf}
 use Rattle.access.specs.LoadsAndStores.{stackStored, afterStackStore}
-
-pub load-did : (r : Record) (ram : List ℕ) (t : ℕ) (l : Loaded) → loadDid r t l ≡ didOf r (loadTo r ram t l)
-unfolding loadDid loadTo didOf
-load-did r ram t (loaded.Value x) = refl
-load-did r ram t (loaded.Fails f) = refl
-
-pub store-did : (r : Record) (s : Stored) (after : List ℕ) → record { met = s; after = r } ≡ didOf r (storeWith r s after)
-unfolding storeWith didOf
-store-did r stored.Done after = refl
-store-did r (stored.Fails f) after = refl
 
 -- a store that fails changes none either
 ram-by : (r : Record) (ram : List ℕ) (f : Fault) (t : Bool) (after : List ℕ)

@@ -53,50 +53,23 @@ storeBase r ram size t imm12 =
 abbrev pub loadedBase : Record → List ℕ → List ℕ → Size → ℕ → ℕ → Loaded
 loadedBase r ram external size n imm12 = loadedBy (r .base) (eqb n 9) ram external imm12 size
 
+abbrev pub loadBase : Record → List ℕ → List ℕ → Size → ℕ → ℕ → ℕ → Outcome
+loadBase r ram external size n t imm12 = loadTo r ram t (loadedBase r ram external size n imm12)
+
+abbrev pub loadSigned : Record → List ℕ → List ℕ → Size → ℕ → ℕ → ℕ → Outcome
+loadSigned r ram external size n t imm12 = loadTo r ram t (signedLoaded size (loadedBase r ram external size n imm12))
+
 -- ---- the instructions, in the order of the listed encodings, with the operands of their encoding
 
-abbrev pub ldrLit : List ℕ → Record → List ℕ → ℕ → ℕ → Outcome
-ldrLit page r ram t imm8 = loadTo r ram t (literalLoaded page (r .place) imm8)
-
-abbrev pub strSp : Record → List ℕ → ℕ → ℕ → Outcome
-strSp r ram t imm8 = storeAt r ram t (r .sp + 4 * imm8)
-
-abbrev pub ldrSp : Record → List ℕ → ℕ → ℕ → Outcome
-ldrSp r ram t imm8 = loadAt r ram t (r .sp + 4 * imm8)
-
-abbrev pub strImm : Record → List ℕ → ℕ → ℕ → Outcome
-strImm r ram t imm12 = storeBase r ram Word t imm12
-
-abbrev pub strbImm : Record → List ℕ → ℕ → ℕ → Outcome
-strbImm r ram t imm12 = storeBase r ram Byte t imm12
-
-abbrev pub strhImm : Record → List ℕ → ℕ → ℕ → Outcome
-strhImm r ram t imm12 = storeBase r ram Halfword t imm12
-
-abbrev pub ldrImm : List ℕ → Record → List ℕ → ℕ → ℕ → ℕ → Outcome
-ldrImm external r ram n t imm12 = loadTo r ram t (loadedBase r ram external Word n imm12)
-
-abbrev pub ldrbImm : List ℕ → Record → List ℕ → ℕ → ℕ → ℕ → Outcome
-ldrbImm external r ram n t imm12 = loadTo r ram t (loadedBase r ram external Byte n imm12)
-
-abbrev pub ldrhImm : List ℕ → Record → List ℕ → ℕ → ℕ → ℕ → Outcome
-ldrhImm external r ram n t imm12 = loadTo r ram t (loadedBase r ram external Halfword n imm12)
-
-abbrev pub ldrsbImm : List ℕ → Record → List ℕ → ℕ → ℕ → ℕ → Outcome
-ldrsbImm external r ram n t imm12 = loadTo r ram t (signedLoaded Byte (loadedBase r ram external Byte n imm12))
-
-abbrev pub ldrshImm : List ℕ → Record → List ℕ → ℕ → ℕ → ℕ → Outcome
-ldrshImm external r ram n t imm12 = loadTo r ram t (signedLoaded Halfword (loadedBase r ram external Halfword n imm12))
-
 unfoldable pub accessed : List ℕ → List ℕ → Access → Record → List ℕ → Outcome
-accessed page external (LdrLit t imm8) r ram = ldrLit page r ram t imm8
-accessed page external (StrSp t imm8) r ram = strSp r ram t imm8
-accessed page external (LdrSp t imm8) r ram = ldrSp r ram t imm8
-accessed page external (Str t imm12) r ram = strImm r ram t imm12
-accessed page external (Strb t imm12) r ram = strbImm r ram t imm12
-accessed page external (Strh t imm12) r ram = strhImm r ram t imm12
-accessed page external (Ldr n t imm12) r ram = ldrImm external r ram n t imm12
-accessed page external (Ldrb n t imm12) r ram = ldrbImm external r ram n t imm12
-accessed page external (Ldrh n t imm12) r ram = ldrhImm external r ram n t imm12
-accessed page external (Ldrsb n t imm12) r ram = ldrsbImm external r ram n t imm12
-accessed page external (Ldrsh n t imm12) r ram = ldrshImm external r ram n t imm12
+accessed page external (LdrLit t imm8) r ram = loadTo r ram t (literalLoaded page (r .place) imm8)
+accessed page external (StrSp t imm8) r ram = storeAt r ram t (r .sp + 4 * imm8)
+accessed page external (LdrSp t imm8) r ram = loadAt r ram t (r .sp + 4 * imm8)
+accessed page external (Str t imm12) r ram = storeBase r ram Word t imm12
+accessed page external (Strb t imm12) r ram = storeBase r ram Byte t imm12
+accessed page external (Strh t imm12) r ram = storeBase r ram Halfword t imm12
+accessed page external (Ldr n t imm12) r ram = loadBase r ram external Word n t imm12
+accessed page external (Ldrb n t imm12) r ram = loadBase r ram external Byte n t imm12
+accessed page external (Ldrh n t imm12) r ram = loadBase r ram external Halfword n t imm12
+accessed page external (Ldrsb n t imm12) r ram = loadSigned r ram external Byte n t imm12
+accessed page external (Ldrsh n t imm12) r ram = loadSigned r ram external Halfword n t imm12

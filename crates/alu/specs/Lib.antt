@@ -1,1 +1,1 @@
-pub mod DataProcessing
+pub mod Operations

@@ -196,8 +196,9 @@ fn largest_at(page: &[u8], k: u32) -> LargestSuccessor
     requires { ⌜ k < 64 ⌝ }
     ensures { λ r. ⌜ r ≡ largestSuccessor (successorsOf (now (page .entry)) k) ⌝ }
 {
-    let first = page::halfword(page, 2 * k);
-    let second = page::halfword(page, 2 * k + 1);
+    let h = page::halves_of(page, k);
+    let first = h.first;
+    let second = h.second;
     if isa::opens_32(first) {
         return of_wide(isa32::decode32(first, second), k + 1);
     }

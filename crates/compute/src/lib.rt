@@ -1,50 +1,123 @@
-// What a data-processing instruction does to registers and flags: each is found here by its encoding.
+// What a data-processing instruction writes: each is found here by its encoding.
 ghost use mathlib.Core.Path.{_≡_};
-ghost use Rattle.compute.specs.Computed.{computed};
+ghost use Rattle.state.specs.Record.{registerIn};
+ghost use Rattle.compute.specs.Computed as definitions;
+use alu::Valued;
+use arm::Flags;
+use arm::immediate_amount;
 use isa::Operation;
-use state::Record;
+use state::Write;
+use std::num::wrapping_add_u32;
 
-pub fn compute(operation: Operation, r: Record) -> Record
-    ensures { λ s. ⌜ s ≡ computed operation r ⌝ }
+// One register at most, and the flags.
+pub struct Computed {
+    pub register: Write,
+    pub flags: Flags,
+}
+
+// The value goes to register d, and the flags are set.
+fn to(d: u8, v: Valued) -> Computed
+    ensures { λ c. ⌜ c ≡ definitions.to d v ⌝ }
+{
+    let flags = v.flags;
+    Computed {
+        register: Write::Register(d, v.value),
+        flags,
+    }
+}
+
+// The flags are set, and the value goes nowhere.
+fn flags_of(v: Valued) -> Computed
+    ensures { λ c. ⌜ c ≡ definitions.flagsOf v ⌝ }
+{
+    let flags = v.flags;
+    Computed {
+        register: Write::NoRegister,
+        flags,
+    }
+}
+
+// A value goes to register d, and the flags stay.
+fn moved(d: u8, x: u32, f: Flags) -> Computed
+    ensures { λ c. ⌜ c ≡ definitions.moved d x f ⌝ }
+{
+    Computed {
+        register: Write::Register(d, x),
+        flags: f,
+    }
+}
+
+fn unchanged(f: Flags) -> Computed
+    ensures { λ c. ⌜ c ≡ definitions.unchanged f ⌝ }
+{
+    Computed {
+        register: Write::NoRegister,
+        flags: f,
+    }
+}
+
+fn at(regs: &[u32], k: u8) -> u32
+    ensures { λ x. ⌜ x ≡ registerIn (now (regs .entry)) k ⌝ }
+{
+    state::register_in(regs, k)
+}
+
+// The amount of a shift by a register.
+fn low_byte(x: u32) -> u8
+    ensures { λ b. ⌜ b ≡ definitions.lowByte x ⌝ }
+{
+    bits::field(x, 0, 8) as u8
+}
+
+// The upper half is imm16.
+fn with_upper(x: u32, imm16: u16) -> u32
+    ensures { λ y. ⌜ y ≡ definitions.withUpper x imm16 ⌝ }
+{
+    bits::joined(imm16 as u32, x, 16)
+}
+
+// In the order of the listed encodings; operands as in `isa::Operation`.
+pub fn compute(operation: Operation, regs: &[u32], sp: u32, f: Flags) -> Computed
+    ensures { λ c. ⌜ c ≡ definitions.computed operation (now (regs .entry)) sp f ⌝ }
 {
     match operation {
-        Operation::LslImm(imm5, m, d) => alu::lsl_imm(r, imm5, m, d),
-        Operation::LsrImm(imm5, m, d) => alu::lsr_imm(r, imm5, m, d),
-        Operation::AsrImm(imm5, m, d) => alu::asr_imm(r, imm5, m, d),
-        Operation::AddReg(m, n, d) => alu::add_reg(r, m, n, d),
-        Operation::SubReg(m, n, d) => alu::sub_reg(r, m, n, d),
-        Operation::AddImm3(imm3, n, d) => alu::add_imm3(r, imm3, n, d),
-        Operation::SubImm3(imm3, n, d) => alu::sub_imm3(r, imm3, n, d),
-        Operation::MovImm(d, imm8) => alu::mov_imm(r, d, imm8),
-        Operation::CmpImm(n, imm8) => alu::cmp_imm(r, n, imm8),
-        Operation::AddImm(d, imm8) => alu::add_imm(r, d, imm8),
-        Operation::SubImm(d, imm8) => alu::sub_imm(r, d, imm8),
-        Operation::And(m, d) => alu::and_reg(r, m, d),
-        Operation::Eor(m, d) => alu::eor_reg(r, m, d),
-        Operation::LslReg(m, d) => alu::lsl_reg(r, m, d),
-        Operation::LsrReg(m, d) => alu::lsr_reg(r, m, d),
-        Operation::AsrReg(m, d) => alu::asr_reg(r, m, d),
-        Operation::Adc(m, d) => alu::adc_reg(r, m, d),
-        Operation::Sbc(m, d) => alu::sbc_reg(r, m, d),
-        Operation::RorReg(m, d) => alu::ror_reg(r, m, d),
-        Operation::Tst(m, n) => alu::tst_reg(r, m, n),
-        Operation::Rsb(n, d) => alu::rsb_reg(r, n, d),
-        Operation::CmpReg(m, n) => alu::cmp_reg(r, m, n),
-        Operation::Cmn(m, n) => alu::cmn_reg(r, m, n),
-        Operation::Orr(m, d) => alu::orr_reg(r, m, d),
-        Operation::Mul(n, d) => alu::mul_reg(r, n, d),
-        Operation::Bic(m, d) => alu::bic_reg(r, m, d),
-        Operation::Mvn(m, d) => alu::mvn_reg(r, m, d),
-        Operation::MovReg(m, d) => alu::mov_reg(r, m, d),
-        Operation::AddSp(d, imm8) => alu::add_sp(r, d, imm8),
-        Operation::Sxth(m, d) => alu::sxth_reg(r, m, d),
-        Operation::Sxtb(m, d) => alu::sxtb_reg(r, m, d),
-        Operation::Uxth(m, d) => alu::uxth_reg(r, m, d),
-        Operation::Uxtb(m, d) => alu::uxtb_reg(r, m, d),
-        Operation::Nop => r,
-        Operation::Movw(imm16, d) => alu::movw_imm(r, imm16, d),
-        Operation::Movt(imm16, d) => alu::movt_imm(r, imm16, d),
-        Operation::Sdiv(n, d, m) => alu::sdiv_reg(r, n, d, m),
-        Operation::Udiv(n, d, m) => alu::udiv_reg(r, n, d, m),
+        Operation::LslImm(imm5, m, d) => to(d, alu::lsl(at(regs, m), imm5, f)),
+        Operation::LsrImm(imm5, m, d) => to(d, alu::lsr(at(regs, m), immediate_amount(imm5), f)),
+        Operation::AsrImm(imm5, m, d) => to(d, alu::asr(at(regs, m), immediate_amount(imm5), f)),
+        Operation::AddReg(m, n, d) => to(d, alu::add(at(regs, n), at(regs, m))),
+        Operation::SubReg(m, n, d) => to(d, alu::sub(at(regs, n), at(regs, m))),
+        Operation::AddImm3(imm3, n, d) => to(d, alu::add(at(regs, n), imm3 as u32)),
+        Operation::SubImm3(imm3, n, d) => to(d, alu::sub(at(regs, n), imm3 as u32)),
+        Operation::MovImm(d, imm8) => to(d, alu::mov(imm8 as u32, f)),
+        Operation::CmpImm(n, imm8) => flags_of(alu::sub(at(regs, n), imm8 as u32)),
+        Operation::AddImm(d, imm8) => to(d, alu::add(at(regs, d), imm8 as u32)),
+        Operation::SubImm(d, imm8) => to(d, alu::sub(at(regs, d), imm8 as u32)),
+        Operation::And(m, d) => to(d, alu::mov(arm::and(at(regs, d), at(regs, m)), f)),
+        Operation::Eor(m, d) => to(d, alu::mov(arm::eor(at(regs, d), at(regs, m)), f)),
+        Operation::LslReg(m, d) => to(d, alu::lsl(at(regs, d), low_byte(at(regs, m)), f)),
+        Operation::LsrReg(m, d) => to(d, alu::lsr(at(regs, d), low_byte(at(regs, m)), f)),
+        Operation::AsrReg(m, d) => to(d, alu::asr(at(regs, d), low_byte(at(regs, m)), f)),
+        Operation::Adc(m, d) => to(d, alu::adc(at(regs, d), at(regs, m), f)),
+        Operation::Sbc(m, d) => to(d, alu::sbc(at(regs, d), at(regs, m), f)),
+        Operation::RorReg(m, d) => to(d, alu::ror(at(regs, d), low_byte(at(regs, m)), f)),
+        Operation::Tst(m, n) => flags_of(alu::mov(arm::and(at(regs, n), at(regs, m)), f)),
+        Operation::Rsb(n, d) => to(d, alu::rsb(at(regs, n))),
+        Operation::CmpReg(m, n) => flags_of(alu::sub(at(regs, n), at(regs, m))),
+        Operation::Cmn(m, n) => flags_of(alu::add(at(regs, n), at(regs, m))),
+        Operation::Orr(m, d) => to(d, alu::mov(arm::orr(at(regs, d), at(regs, m)), f)),
+        Operation::Mul(n, d) => to(d, alu::mov(arm::mul(at(regs, n), at(regs, d)), f)),
+        Operation::Bic(m, d) => to(d, alu::mov(arm::bic(at(regs, d), at(regs, m)), f)),
+        Operation::Mvn(m, d) => to(d, alu::mov(arm::mvn(at(regs, m)), f)),
+        Operation::MovReg(m, d) => moved(d, at(regs, m), f),
+        Operation::AddSp(d, imm8) => moved(d, wrapping_add_u32(sp, 4 * (imm8 as u32)), f),
+        Operation::Sxth(m, d) => moved(d, arm::sxth(at(regs, m)), f),
+        Operation::Sxtb(m, d) => moved(d, arm::sxtb(at(regs, m)), f),
+        Operation::Uxth(m, d) => moved(d, arm::uxth(at(regs, m)), f),
+        Operation::Uxtb(m, d) => moved(d, arm::uxtb(at(regs, m)), f),
+        Operation::Nop => unchanged(f),
+        Operation::Movw(imm16, d) => moved(d, imm16 as u32, f),
+        Operation::Movt(imm16, d) => moved(d, with_upper(at(regs, d), imm16), f),
+        Operation::Sdiv(n, d, m) => moved(d, arm::sdiv(at(regs, n), at(regs, m)), f),
+        Operation::Udiv(n, d, m) => moved(d, arm::udiv(at(regs, n), at(regs, m)), f),
     }
 }

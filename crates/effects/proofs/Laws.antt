@@ -5,25 +5,25 @@ use mathlib.Core.List.{List}
 use mathlib.Core.Path.{_≡_, refl}
 use lib.Dec.{ltb}
 use Rattle.memory.specs.declared.Fault.the-variants.{LowStack}
-use Rattle.state.specs.Record.{withSp}
+use Rattle.state.specs.Writes.{writesNothing, writingSp}
 use Rattle.state.specs.declared.Record.{Record}
 use Rattle.access.specs.Outcomes.{Outcome, does, fails, didOf, ramOf}
-use Rattle.effects.specs.ServiceEffects.{leavesNone, lowerSp, noneDid}
+use Rattle.effects.specs.ServiceEffects.{noneDid, leavesNone, lowerSp}
 
 pub lower-ram : (r : Record) (ram : List ℕ) (words : ℕ) → ram ≡ ramOf ram (lowerSp r ram words)
 unfolding lowerSp ramOf
 lower-ram r ram words = by (ltb (r .sp) (0x10000 + 4 * words))
   where
-    by : (t : Bool) → ram ≡ ramOf ram (cond t (fails LowStack) (does (withSp r (r .sp - 4 * words)) ram))
+    by : (t : Bool) → ram ≡ ramOf ram (cond t (fails LowStack) (does (writingSp (writesNothing r) (r .sp - 4 * words)) ram))
     by true = refl
     by false = refl
 
-pub none-did : (r : Record) (o : Outcome) → noneDid (didOf r o .met) (didOf r o .after) ≡ didOf r (leavesNone o)
+pub none-did : (o : Outcome) → noneDid (didOf o) ≡ didOf (leavesNone o)
 unfolding noneDid leavesNone didOf
-none-did r (does s ram) = refl
-none-did r (fails f) = refl
+none-did (does w ram) = refl
+none-did (fails f) = refl
 
 pub none-ram : (ram : List ℕ) (o : Outcome) → ramOf ram o ≡ ramOf ram (leavesNone o)
 unfolding leavesNone ramOf
-none-ram ram (does r after) = refl
+none-ram ram (does w after) = refl
 none-ram ram (fails f) = refl

@@ -6,51 +6,51 @@ use lib.Dec.{ltb}
 use Rattle.service.specs.declared.Service.{Service}
 use Rattle.service.specs.declared.Service.the-variants.{Return, Call, TailCall, Syscall, TailSyscall, LongBranch, Preload, SetBase, StoreAtSp, LoadAtSp, LowerSp, DirectSyscall, Validate, Breakpoint, CallRegister, TailCallRegister, Bad}
 use Rattle.memory.specs.declared.Fault.the-variants.{LowStack}
-use Rattle.memory.specs.declared.Stored.{Stored}
-use Rattle.memory.specs.declared.Stored.the-variants.{Done}
-use Rattle.memory.specs.declared.Stored.the-variants as stored
-use Rattle.state.specs.Record.{register, withSp, withBase}
+use Rattle.state.specs.Record.{register}
+use Rattle.state.specs.Writes.{writesNothing, writingSp, writingBase}
 use Rattle.state.specs.Validation.{validated}
 use Rattle.state.specs.declared.Base.the-variants.{Nothing}
 use Rattle.state.specs.declared.Record.{Record}
-use Rattle.access.specs.declared.Did.{Did}
 use Rattle.access.specs.Outcomes.{Outcome, does, fails}
+use Rattle.access.specs.declared.Did.{Did}
+use Rattle.access.specs.declared.Did.the-variants as did
 use Rattle.access.specs.LoadsAndStores.{loadAt, storeAt}
 
 -- the base is none afterwards
 unfoldable pub leavesNone : Outcome → Outcome
-leavesNone (does r ram) = does (withBase r Nothing) ram
+leavesNone (does w ram) = does (writingBase w Nothing) ram
 leavesNone (fails fault) = fails fault
 
 -- SP less 4 bytes a word; below 0x10000 is fault 5
 unfoldable pub lowerSp : Record → List ℕ → ℕ → Outcome
-lowerSp r ram words = cond (ltb (r .sp) (0x10000 + 4 * words)) (fails LowStack) (does (withSp r (r .sp - 4 * words)) ram)
+lowerSp r ram words = cond (ltb (r .sp) (0x10000 + 4 * words)) (fails LowStack) (does (writingSp (writesNothing r) (r .sp - 4 * words)) ram)
 
 -- base = validate(v)
 abbrev pub setBase : Record → List ℕ → ℕ → ℕ → Outcome
-setBase r ram v external = does (withBase r (validated v external)) ram
+setBase r ram v external = does (writingBase (writesNothing r) (validated v external)) ram
 
 -- every service except setting the base leaves the base none; an exit does nothing else here
 unfoldable pub serviceDoes : ℕ → Service → Record → List ℕ → Outcome
-serviceDoes external Return r ram = leavesNone (does r ram)
-serviceDoes external Call r ram = leavesNone (does r ram)
-serviceDoes external TailCall r ram = leavesNone (does r ram)
-serviceDoes external Syscall r ram = leavesNone (does r ram)
-serviceDoes external TailSyscall r ram = leavesNone (does r ram)
-serviceDoes external LongBranch r ram = leavesNone (does r ram)
-serviceDoes external Preload r ram = leavesNone (does r ram)
+serviceDoes external Return r ram = leavesNone (does (writesNothing r) ram)
+serviceDoes external Call r ram = leavesNone (does (writesNothing r) ram)
+serviceDoes external TailCall r ram = leavesNone (does (writesNothing r) ram)
+serviceDoes external Syscall r ram = leavesNone (does (writesNothing r) ram)
+serviceDoes external TailSyscall r ram = leavesNone (does (writesNothing r) ram)
+serviceDoes external LongBranch r ram = leavesNone (does (writesNothing r) ram)
+serviceDoes external Preload r ram = leavesNone (does (writesNothing r) ram)
 serviceDoes external (SetBase a) r ram = setBase r ram a external
 serviceDoes external (StoreAtSp t a) r ram = leavesNone (storeAt r ram t (r .sp + a))
 serviceDoes external (LoadAtSp t a) r ram = leavesNone (loadAt r ram t (r .sp + a))
 serviceDoes external (LowerSp words) r ram = leavesNone (lowerSp r ram words)
-serviceDoes external (DirectSyscall n) r ram = leavesNone (does r ram)
+serviceDoes external (DirectSyscall n) r ram = leavesNone (does (writesNothing r) ram)
 serviceDoes external (Validate n) r ram = setBase r ram (register r n) external
-serviceDoes external Breakpoint r ram = leavesNone (does r ram)
-serviceDoes external (CallRegister n) r ram = leavesNone (does r ram)
-serviceDoes external (TailCallRegister n) r ram = leavesNone (does r ram)
-serviceDoes external Bad r ram = leavesNone (does r ram)
+serviceDoes external Breakpoint r ram = leavesNone (does (writesNothing r) ram)
+serviceDoes external (CallRegister n) r ram = leavesNone (does (writesNothing r) ram)
+serviceDoes external (TailCallRegister n) r ram = leavesNone (does (writesNothing r) ram)
+serviceDoes external Bad r ram = leavesNone (does (writesNothing r) ram)
 
--- what the code gives back where the base is none afterwards
-unfoldable pub noneDid : Stored → Record → Did
-noneDid Done r = record { met = Done; after = withBase r Nothing }
-noneDid (stored.Fails fault) r = record { met = stored.Fails fault; after = r }
+-- ---- what the code gives back where the base is none afterwards
+
+unfoldable pub noneDid : Did → Did
+noneDid (did.Writes w) = did.Writes (writingBase w Nothing)
+noneDid (did.Fails fault) = did.Fails fault

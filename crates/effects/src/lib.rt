@@ -1,73 +1,52 @@
 // What services do to registers, SP, base and RAM, and which fault they meet; never the place.
 ghost use mathlib.Core.Path.{_≡_};
 ghost use lib.ListN.{length};
-ghost use Rattle.memory.specs.declared.Stored.the-variants.{Done};
-ghost use Rattle.access.specs.Outcomes.{Does, DoesAny};
-ghost use Rattle.effects.specs.ServiceEffects.{noneDid, lowerSp, setBase, serviceDoes};
+ghost use Rattle.access.specs.Outcomes.{does, Does, DoesAny};
+ghost use Rattle.state.specs.Writes.{writesNothing};
+ghost use Rattle.effects.specs.ServiceEffects.{noneDid, leavesNone, lowerSp, setBase, serviceDoes};
 use access::Did;
 use memory::Fault;
-use memory::Stored;
 use service::Service;
 use state::Base;
 use state::Record;
 
 // The base is none, unless a fault was met.
 fn leave_none(d: Did) -> Did
-    ensures { λ e. ⌜ e ≡ noneDid (d .met) (d .after) ⌝ }
+    ensures { λ e. ⌜ e ≡ noneDid d ⌝ }
 {
-    let met = d.met;
-    let after = d.after;
-    match met {
-        Stored::Done => Did {
-            met: Stored::Done,
-            after: state::set_base(after, Base::Nothing),
-        },
-        Stored::Fails(fault) => Did {
-            met: Stored::Fails(fault),
-            after,
-        },
+    match d {
+        Did::Writes(w) => Did::Writes(state::writing_base(w, Base::Nothing)),
+        Did::Fails(fault) => Did::Fails(fault),
     }
 }
 
 fn lower_sp(r: Record, words: u32) -> Did
-    ensures { λ d. ⌜ DoesAny r (λ m. lowerSp r m words) d ⌝ }
+    ensures { λ d. ⌜ DoesAny (λ m. lowerSp r m words) d ⌝ }
 {
     let sp = r.sp as usize;
     let bytes = 4 * (words as usize);
     if sp < 0x10000 + bytes {
-        Did {
-            met: Stored::Fails(Fault::LowStack),
-            after: r,
-        }
+        Did::Fails(Fault::LowStack)
     } else {
-        Did {
-            met: Stored::Done,
-            after: state::set_sp(r, (sp - bytes) as u32),
-        }
+        Did::Writes(state::writing_sp(state::writes_nothing(r), (sp - bytes) as u32))
     }
 }
 
 // Nothing but the base rule.
 fn base_rule(r: Record) -> Did
-    ensures { λ d. ⌜ d ≡ noneDid Done r ⌝ }
+    ensures { λ d. ⌜ DoesAny (λ m. leavesNone (does (writesNothing r) m)) d ⌝ }
 {
-    Did {
-        met: Stored::Done,
-        after: state::set_base(r, Base::Nothing),
-    }
+    Did::Writes(state::writing_base(state::writes_nothing(r), Base::Nothing))
 }
 
 fn set_base_to(r: Record, v: u32, external: &[u8]) -> Did
-    ensures { λ d. ⌜ DoesAny r (λ m. setBase r m v (length (now (external .entry)))) d ⌝ }
+    ensures { λ d. ⌜ DoesAny (λ m. setBase r m v (length (now (external .entry)))) d ⌝ }
 {
-    Did {
-        met: Stored::Done,
-        after: state::set_base(r, state::base_of(v, external.len())),
-    }
+    Did::Writes(state::writing_base(state::writes_nothing(r), state::base_of(v, external.len())))
 }
 
 pub fn serve(external: &[u8], s: Service, r: Record, ram: &mut [u8]) -> Did
-    ensures { λ d. ⌜ Does r (now (ram .entry)) (serviceDoes (length (now (external .entry))) s r (now (ram .entry))) d (now (ram .exit)) ⌝ }
+    ensures { λ d. ⌜ Does (now (ram .entry)) (serviceDoes (length (now (external .entry))) s r (now (ram .entry))) d (now (ram .exit)) ⌝ }
 {
     let sp = r.sp as usize;
     match s {

@@ -14,8 +14,6 @@ use Rattle.endian.specs.declared.Size.{Size}
 use Rattle.endian.specs.declared.Size.the-variants.{Byte, Halfword, Word}
 use Rattle.isa.specs.declared.Access.{Access}
 use Rattle.isa.specs.declared.Access.the-variants.{LdrLit, StrSp, LdrSp, Str, Strb, Strh, Ldr, Ldrb, Ldrh, Ldrsb, Ldrsh}
-use Rattle.isa.specs.declared.Operation.{Operation}
-use Rattle.isa.specs.declared.Operation.the-variants.{LslImm, LsrImm, AsrImm, AddReg, SubReg, AddImm3, SubImm3, MovImm, CmpImm, AddImm, SubImm, And, Eor, LslReg, LsrReg, AsrReg, Adc, Sbc, RorReg, Tst, Rsb, CmpReg, Cmn, Orr, Mul, Bic, Mvn, MovReg, AddSp, Sxth, Sxtb, Uxth, Uxtb, Nop, Movw, Movt, Sdiv, Udiv}
 use Rattle.service.specs.declared.Service.{Service}
 use Rattle.service.specs.declared.Service.the-variants.{Return, Call, TailCall, Syscall, TailSyscall, LongBranch, Preload, SetBase, StoreAtSp, LoadAtSp, LowerSp, DirectSyscall, Validate, Breakpoint, CallRegister, TailCallRegister, Bad}
 use Rattle.memory.specs.Memory.{insideRam, ramAfter, storedBy, afterStoreBy, signedLoaded}
@@ -26,65 +24,26 @@ use Rattle.memory.specs.declared.Loaded.the-variants as loaded
 use Rattle.memory.specs.declared.Stored.{Stored}
 use Rattle.memory.specs.declared.Stored.the-variants.{Done}
 use Rattle.memory.specs.declared.Stored.the-variants as stored
-use Rattle.state.specs.Record.{register, withRegister, withSp, withFlags, withBase, spFits, baseFits, fitRecord}
+use Rattle.state.specs.Record.{register, spFits, baseFits}
+use Rattle.state.specs.Writes.{writesNothing, writingSp, writingBase}
 use Rattle.state.specs.Validation.{validated}
 use Rattle.state.specs.declared.Base.{Base}
 use Rattle.state.specs.declared.Base.the-variants.{Nothing, Ram, External}
 use Rattle.state.specs.declared.Record.{Record}
-use Rattle.compute.specs.Computed.{computed}
+use Rattle.state.specs.declared.Writes.{Writes}
 use Rattle.access.specs.Outcomes.{Outcome, does, fails, loadTo, storeWith}
 use Rattle.access.specs.LoadsAndStores.{stackLoaded, stackStored, afterStackStore, storeAt, literalLoaded, storeBase, loadedBase, accessed}
 use Rattle.effects.specs.ServiceEffects.{leavesNone, lowerSp, setBase, serviceDoes}
 
--- ---- records
+-- ---- what is written
 
--- a data-processing instruction changes registers and flags alone
-pub computed-fits : (operation : Operation) (r : Record) (external : ℕ) → fitRecord r external ≡ true
-    → fitRecord (computed operation r) external ≡ true
-unfolding fitRecord withRegister withFlags
-computed-fits (LslImm imm5 m d) r external h = h
-computed-fits (LsrImm imm5 m d) r external h = h
-computed-fits (AsrImm imm5 m d) r external h = h
-computed-fits (AddReg m n d) r external h = h
-computed-fits (SubReg m n d) r external h = h
-computed-fits (AddImm3 imm3 n d) r external h = h
-computed-fits (SubImm3 imm3 n d) r external h = h
-computed-fits (MovImm d imm8) r external h = h
-computed-fits (CmpImm n imm8) r external h = h
-computed-fits (AddImm d imm8) r external h = h
-computed-fits (SubImm d imm8) r external h = h
-computed-fits (And m d) r external h = h
-computed-fits (Eor m d) r external h = h
-computed-fits (LslReg m d) r external h = h
-computed-fits (LsrReg m d) r external h = h
-computed-fits (AsrReg m d) r external h = h
-computed-fits (Adc m d) r external h = h
-computed-fits (Sbc m d) r external h = h
-computed-fits (RorReg m d) r external h = h
-computed-fits (Tst m n) r external h = h
-computed-fits (Rsb n d) r external h = h
-computed-fits (CmpReg m n) r external h = h
-computed-fits (Cmn m n) r external h = h
-computed-fits (Orr m d) r external h = h
-computed-fits (Mul n d) r external h = h
-computed-fits (Bic m d) r external h = h
-computed-fits (Mvn m d) r external h = h
-computed-fits (MovReg m d) r external h = h
-computed-fits (AddSp d imm8) r external h = h
-computed-fits (Sxth m d) r external h = h
-computed-fits (Sxtb m d) r external h = h
-computed-fits (Uxth m d) r external h = h
-computed-fits (Uxtb m d) r external h = h
-computed-fits Nop r external h = h
-computed-fits (Movw imm16 d) r external h = h
-computed-fits (Movt imm16 d) r external h = h
-computed-fits (Sdiv n d m) r external h = h
-computed-fits (Udiv n d m) r external h = h
+-- SP and the base are as a fit record's
+abbrev pub FitWrites : ℕ → Writes → Type 0
+FitWrites external w = (spFits (w .sp) && baseFits (w .base) external) ≡ true
 
-base-fits : (r : Record) (b : Base) (external : ℕ) → baseFits b external ≡ true → fitRecord r external ≡ true
-    → fitRecord (withBase r b) external ≡ true
-unfolding fitRecord withBase
-base-fits r b external e f = rw (both (spFits (r .sp)) (baseFits (r .base) external) f .0) e
+base-fits : (w : Writes) (b : Base) (external : ℕ) → baseFits b external ≡ true → FitWrites external w
+    → FitWrites external (writingBase w b)
+base-fits w b external e f = rw (both (spFits (w .sp)) (baseFits (w .base) external) f .0) e
 
 validated-fits : (v external : ℕ) → baseFits (validated v external) external ≡ true
 unfolding validated
@@ -105,12 +64,11 @@ less-fits sp words l h =
     rw (le-leb 0x10000 (sp - 4 * words) (omega arith), le-leb (sp - 4 * words) 0x18000 (omega arith))
     (eq-eqb ((sp - 4 * words) % 4) 0 (omega arith))
 
-lower-fits : (r : Record) (words external : ℕ) → 0x10000 + 4 * words ≤ r .sp → fitRecord r external ≡ true
-    → fitRecord (withSp r (r .sp - 4 * words)) external ≡ true
-unfolding fitRecord withSp
-lower-fits r words external l f =
-    let parts = both (spFits (r .sp)) (baseFits (r .base) external) f in
-    rw (less-fits (r .sp) words l (parts .0)) (parts .1)
+lower-fits : (w : Writes) (words external : ℕ) → 0x10000 + 4 * words ≤ w .sp → FitWrites external w
+    → FitWrites external (writingSp w (w .sp - 4 * words))
+lower-fits w words external l f =
+    let parts = both (spFits (w .sp)) (baseFits (w .base) external) f in
+    rw (less-fits (w .sp) words l (parts .0)) (parts .1)
 
 -- ---- RAM keeps its length
 
@@ -138,19 +96,19 @@ base-length (External offset) ram imm12 size x = refl
 
 -- ---- outcomes
 
--- what is done leaves a fit record and RAM of its size
+-- what is done leaves a fit record, since nothing else of it is tested, and RAM of its size
 abbrev pub Leaves : ℕ → Outcome → Type 0
-Leaves external (does r ram) = (fitRecord r external ≡ true) × (length ram ≡ 32768)
+Leaves external (does w ram) = FitWrites external w × (length ram ≡ 32768)
 Leaves external (fails fault) = Unit {0}
 
 none-after : (external : ℕ) (o : Outcome) → Leaves external o → Leaves external (leavesNone o)
 unfolding leavesNone
-none-after external (does r ram) h = (base-fits r Nothing external refl (h .0), h .1)
+none-after external (does w ram) h = (base-fits w Nothing external refl (h .0), h .1)
 none-after external (fails fault) h = tt
 
-module _ (external : ℕ) (r : Record) (ram : List ℕ) (f : fitRecord r external ≡ true) (e : length ram ≡ 32768) where
+module _ (external : ℕ) (r : Record) (ram : List ℕ) (f : FitWrites external (writesNothing r)) (e : length ram ≡ 32768) where
   load-leaves : (t : ℕ) (l : Loaded) → Leaves external (loadTo r ram t l)
-  unfolding loadTo fitRecord withRegister
+  unfolding loadTo
   load-leaves t (Value x) = (f, e)
   load-leaves t (loaded.Fails fault) = tt
 
@@ -184,20 +142,20 @@ module _ (external : ℕ) (r : Record) (ram : List ℕ) (f : fitRecord r externa
 
   -- ---- services
 
-  none-leaves : Leaves external (leavesNone (does r ram))
-  none-leaves = none-after external (does r ram) (f, e)
+  none-leaves : Leaves external (leavesNone (does (writesNothing r) ram))
+  none-leaves = none-after external (does (writesNothing r) ram) (f, e)
 
   base-leaves : (v : ℕ) → Leaves external (setBase r ram v external)
-  base-leaves v = (base-fits r (validated v external) external (validated-fits v external) f, e)
+  base-leaves v = (base-fits (writesNothing r) (validated v external) external (validated-fits v external) f, e)
 
   lower-leaves : (words : ℕ) → Leaves external (lowerSp r ram words)
   unfolding lowerSp
   lower-leaves words = go (ltb (r .sp) (0x10000 + 4 * words)) refl
     where
       go : (t : Bool) → ltb (r .sp) (0x10000 + 4 * words) ≡ t
-          → Leaves external (cond t (fails LowStack) (does (withSp r (r .sp - 4 * words)) ram))
+          → Leaves external (cond t (fails LowStack) (does (writingSp (writesNothing r) (r .sp - 4 * words)) ram))
       go true l = tt
-      go false l = (lower-fits r words external (ltb-false (r .sp) (0x10000 + 4 * words) l) f, e)
+      go false l = (lower-fits (writesNothing r) words external (ltb-false (r .sp) (0x10000 + 4 * words) l) f, e)
 
   pub service-leaves : (s : Service) → Leaves external (serviceDoes external s r ram)
   unfolding serviceDoes

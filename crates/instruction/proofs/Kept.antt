@@ -29,18 +29,19 @@ use Rattle.memory.specs.Faults.{faultNumber}
 use Rattle.memory.specs.declared.Fault.{Fault}
 use Rattle.memory.specs.declared.Fault.the-variants.{NoBase, PastRam, OffExternalPage, PastStack, LowStack, PastPage}
 use Rattle.state.specs.Record.{register, withPlace, fitRecord}
+use Rattle.state.specs.Writes.{writesNothing, applied}
 use Rattle.state.specs.declared.Record.{Record}
-use Rattle.compute.specs.Computed.{computed}
+use Rattle.state.specs.declared.Writes.{Writes}
 use Rattle.access.specs.Outcomes.{Outcome, does, fails}
 use Rattle.access.specs.LoadsAndStores.{accessed}
 use Rattle.effects.specs.ServiceEffects.{serviceDoes}
 use Rattle.plain.specs.PlainMachine.{Effect, goesOn, exits}
 use Rattle.place.specs.Places.{instructionAt, following, fitPlace}
 use Rattle.series.specs.Keeps.{Keeps}
-use Rattle.instruction.specs.Instructions.{endAt, branchTo, branchIf, exitOf, servedBy, served, effectOf, instructionOf}
+use Rattle.instruction.specs.Instructions.{endAt, branchTo, branchIf, exitOf, servedBy, served, writesOf, effectOf, instructionOf}
 use Rattle.instruction.specs.Fitness.{Fit, Starts, ServiceAt, exitColumn, Known}
 use Rattle.instruction.proofs.FitPlaces.{LeadsFrom, leads, leads-listed}
-use Rattle.instruction.proofs.FitRecords.{Leaves, computed-fits, accessed-leaves, service-leaves}
+use Rattle.instruction.proofs.FitRecords.{FitWrites, Leaves, accessed-leaves, service-leaves}
 
 known : (f : Fault) → Known (faultNumber f)
 known NoBase = omega arith
@@ -83,32 +84,38 @@ module _ (page external : List ℕ) (r : Record) (ram : List ℕ) (f : Fit page 
   abbrev Kept : Effect → Type 0
   Kept = Keeps (Fit page external) (ServiceAt page r) Known
 
-  -- a fit record and RAM, at a fit place
-  fit-at : (s : Record) (after : List ℕ) (place : ℕ) → Leaves (length external) (does s after) → fitPlace page place ≡ true
-      → Fit page external (withPlace s place) after
-  unfolding fitRecord withPlace
-  fit-at s after place h p = record { recordFits = h .0; placeFits = p; ramFits = h .1 }
+  -- what was written, at a fit place
+  fit-at : (w : Writes) (after : List ℕ) (place : ℕ) → Leaves (length external) (does w after) → fitPlace page place ≡ true
+      → Fit page external (applied r w place) after
+  unfolding fitRecord applied
+  fit-at w after place h p = record { recordFits = h .0; placeFits = p; ramFits = h .1 }
 
   end-kept : (end : Record → List ℕ → Effect) → ((s : Record) (after : List ℕ) → Fit page external s after → Kept (end s after))
-      → (place : ℕ) (o : Outcome) → Leaves (length external) o → fitPlace page place ≡ true → Kept (endAt end place o)
+      → (place : ℕ) (o : Outcome) → Leaves (length external) o → fitPlace page place ≡ true → Kept (endAt end r place o)
   unfolding endAt
-  end-kept end k place (does s after) h p = k _ _ (fit-at s after place h p)
+  end-kept end k place (does w after) h p = k _ _ (fit-at w after place h p)
   end-kept end k place (fails fault) h p = known fault
 
-  unchanged : Leaves (length external) (does r ram)
-  unchanged = (f .recordFits, f .ramFits)
+  fit-writes : FitWrites (length external) (writesNothing r)
+  unfolding fitRecord
+  fit-writes = f .recordFits
+
+  -- a branch only moves
+  moved : (place : ℕ) → fitPlace page place ≡ true → Fit page external (withPlace r place) ram
+  unfolding fitRecord withPlace
+  moved place p = record { recordFits = f .recordFits; placeFits = p; ramFits = f .ramFits }
 
   branch-kept : (t : Target) → LeadsFrom page (r .place) (flowBy true (jumpTo t)) → Kept (branchTo r ram t)
   unfolding branchTo
   branch-kept target.Bad h = absurd h
-  branch-kept (At b) h = fit-at r ram (2 * b) unchanged h
+  branch-kept (At b) h = moved (2 * b) h
 
   if-kept : (taken : Bool) (t : Target) → LeadsFrom page (r .place) (flowBy false (jumpTo t))
       → Kept (branchIf taken r ram (following page (r .place)) t)
   unfolding branchIf branchTo
   if-kept taken target.Bad h = absurd h
-  if-kept true (At b) h = fit-at r ram (2 * b) unchanged (h .0)
-  if-kept false (At b) h = fit-at r ram (following page (r .place)) unchanged (h .1)
+  if-kept true (At b) h = moved (2 * b) (h .0)
+  if-kept false (At b) h = moved (following page (r .place)) (h .1)
 
   -- ---- a service, by how it ends
 
@@ -119,7 +126,7 @@ module _ (page external : List ℕ) (r : Record) (ram : List ℕ) (f : Fit page 
   service-kept : (n : ℕ) → instructionAt page (r .place) ≡ instruction.Service n
       → (e : Ending) → endingOf (serviceOf page n) ≡ e → LeadsFrom page (r .place) (flowBy (endsFlow e) (serviceJump e))
       → (o : Outcome) → Leaves (length external) o
-      → Kept (servedBy e (exitOf page n) (r .place) (following page (r .place)) o)
+      → Kept (servedBy e (exitOf page n) r (following page (r .place)) o)
   unfolding servedBy
   service-kept n s ending.GoesOn e h o l = end-kept goesOn (λ _ _ k. k) (following page (r .place)) o l h
   service-kept n s ending.Exit e h o l =
@@ -134,18 +141,18 @@ module _ (page external : List ℕ) (r : Record) (ram : List ℕ) (f : Fit page 
       → Kept (effectOf page external r ram i)
   unfolding flowOf effectOf served
   each-kept (Data operation) s h =
-      end-kept goesOn (λ _ _ k. k) (following page (r .place)) (does (computed operation r) ram)
-      (computed-fits operation r (length external) (f .recordFits), f .ramFits) h
+      end-kept goesOn (λ _ _ k. k) (following page (r .place)) (does (writesOf operation r) ram)
+      (fit-writes, f .ramFits) h
   each-kept (Memory access) s h =
       end-kept goesOn (λ _ _ k. k) (following page (r .place)) (accessed page external access r ram)
-      (accessed-leaves (length external) r ram (f .recordFits) (f .ramFits) page external access) h
+      (accessed-leaves (length external) r ram fit-writes (f .ramFits) page external access) h
   each-kept (Cbz imm6 n) s h = if-kept (eqb (register r n) 0) (targetOf (r .place) (pos imm6)) h
   each-kept (Cbnz imm6 n) s h = if-kept (not (eqb (register r n) 0)) (targetOf (r .place) (pos imm6)) h
   each-kept (Bcc condition imm8) s h = if-kept (conditionHolds condition (r .flags)) (targetOf (r .place) (SInt 8 imm8)) h
   each-kept (B imm11) s h = branch-kept (targetOf (r .place) (SInt 11 (bits imm11 10 0))) h
   each-kept (instruction.Service n) s h =
       service-kept n s (endingOf (serviceOf page n)) refl h (serviceDoes (length external) (serviceOf page n) r ram)
-      (service-leaves (length external) r ram (f .recordFits) (f .ramFits) (serviceOf page n))
+      (service-leaves (length external) r ram fit-writes (f .ramFits) (serviceOf page n))
   each-kept Unlisted s h = absurd h
 
 pub keeps : (page external : List ℕ) → pageFits page ≡ true → (r : Record) (ram : List ℕ)

@@ -35,15 +35,15 @@ use Rattle.instruction.specs.AtPlace.{Meaningless}
 
 -- ---- what answers with it
 
-not-on : (place : ℕ) (o : Outcome) → endAt goesOn place o ≡ unlisted → ⊥
+not-on : (r : Record) (place : ℕ) (o : Outcome) → endAt goesOn r place o ≡ unlisted → ⊥
 unfolding endAt
-not-on place (does r ram) e = true≢false cc
-not-on place (fails fault) e = true≢false cc
+not-on r place (does w ram) e = true≢false cc
+not-on r place (fails fault) e = true≢false cc
 
-not-exit : (exit : Exit) (place : ℕ) (o : Outcome) → endAt (exits exit) place o ≡ unlisted → ⊥
+not-exit : (exit : Exit) (r : Record) (place : ℕ) (o : Outcome) → endAt (exits exit) r place o ≡ unlisted → ⊥
 unfolding endAt
-not-exit exit place (does r ram) e = true≢false cc
-not-exit exit place (fails fault) e = true≢false cc
+not-exit exit r place (does w ram) e = true≢false cc
+not-exit exit r place (fails fault) e = true≢false cc
 
 bad-target : (r : Record) (ram : List ℕ) (t : Target) → branchTo r ram t ≡ unlisted ↔ t ≡ target.Bad
 unfolding branchTo
@@ -56,12 +56,12 @@ unfolding branchIf
 bad-taken true r ram next t = let bad = bad-target r ram t in (λ e. (refl, bad .0 e), λ h. bad .1 (h .1))
 bad-taken false r ram next t = (λ e. (cc, cc), λ h. cc)
 
-bad-served : (e : Ending) (exit : Exit) (here next : ℕ) (o : Outcome) → servedBy e exit here next o ≡ unlisted ↔ e ≡ ending.Bad
+bad-served : (e : Ending) (exit : Exit) (r : Record) (next : ℕ) (o : Outcome) → servedBy e exit r next o ≡ unlisted ↔ e ≡ ending.Bad
 unfolding servedBy
-bad-served ending.GoesOn exit here next o = (λ e. absurd (not-on next o e), λ e. cc)
-bad-served ending.Exit exit here next o = (λ e. absurd (not-exit exit next o e), λ e. cc)
-bad-served ending.LastExit exit here next o = (λ e. absurd (not-exit exit here o e), λ e. cc)
-bad-served ending.Bad exit here next o = (λ e. refl, λ e. refl)
+bad-served ending.GoesOn exit r next o = (λ e. absurd (not-on r next o e), λ e. cc)
+bad-served ending.Exit exit r next o = (λ e. absurd (not-exit exit r next o e), λ e. cc)
+bad-served ending.LastExit exit r next o = (λ e. absurd (not-exit exit r (r .place) o e), λ e. cc)
+bad-served ending.Bad exit r next o = (λ e. refl, λ e. refl)
 
 bad-ending : (s : AnyService) → endingOf s ≡ ending.Bad → s ≡ service.Bad
 bad-ending service.Return e = cc
@@ -87,8 +87,8 @@ bad-ending service.Bad e = refl
 unlisted-each : (page external : List ℕ) (r : Record) (ram : List ℕ) (i : Instruction)
     → effectOf page external r ram i ≡ unlisted ↔ Meaningless page r i
 unfolding effectOf served
-unlisted-each page external r ram (Data operation) = (not-on _ _, λ h. absurd h)
-unlisted-each page external r ram (Memory access) = (not-on _ _, λ h. absurd h)
+unlisted-each page external r ram (Data operation) = (not-on _ _ _, λ h. absurd h)
+unlisted-each page external r ram (Memory access) = (not-on _ _ _, λ h. absurd h)
 unlisted-each page external r ram (Cbz imm6 n) =
     let bad = bad-taken (eqb (register r n) 0) r ram (following page (r .place)) (targetOf (r .place) (pos imm6)) in
     (λ e. (eqb-true (register r n) 0 (bad .0 e .0), bad .0 e .1), λ h. bad .1 (eq-eqb (register r n) 0 (h .0), h .1))
@@ -102,7 +102,7 @@ unlisted-each page external r ram (Bcc condition imm8) =
 unlisted-each page external r ram (B imm11) = bad-target r ram (targetOf (r .place) (SInt 11 (bits imm11 10 0)))
 unlisted-each page external r ram (Service n) =
     let s = serviceOf page n in
-    let bad = bad-served (endingOf s) (exitOf page n) (r .place) (following page (r .place)) (serviceDoes (length external) s r ram) in
+    let bad = bad-served (endingOf s) (exitOf page n) r (following page (r .place)) (serviceDoes (length external) s r ram) in
     (λ e. bad-ending s (bad .0 e), λ h. bad .1 (ap endingOf h))
 unlisted-each page external r ram Unlisted = (λ e. tt, λ h. refl)
 

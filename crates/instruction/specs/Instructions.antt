@@ -10,6 +10,7 @@ use Rattle.bits.specs.Fields.{bits}
 use Rattle.bits.specs.Integers.{SInt}
 use Rattle.arm.specs.Conditions.{conditionHolds}
 use Rattle.page.specs.Page.{wordAt}
+use Rattle.isa.specs.declared.Operation.{Operation}
 use Rattle.isa.specs.declared.Instruction.{Instruction}
 use Rattle.isa.specs.declared.Instruction.the-variants.{Data, Memory, Cbz, Cbnz, Bcc, B, Service, Unlisted}
 use Rattle.branch.specs.Branches.{targetOf}
@@ -20,7 +21,9 @@ use Rattle.service.specs.Services.{serviceOf, endingOf}
 use Rattle.service.specs.declared.Ending.{Ending}
 use Rattle.service.specs.declared.Ending.the-variants as ending
 use Rattle.state.specs.Record.{register, withPlace}
+use Rattle.state.specs.Writes.{keeping, applied}
 use Rattle.state.specs.declared.Record.{Record}
+use Rattle.state.specs.declared.Writes.{Writes}
 use Rattle.compute.specs.Computed.{computed}
 use Rattle.access.specs.Outcomes.{Outcome, does, fails}
 use Rattle.access.specs.LoadsAndStores.{accessed}
@@ -32,9 +35,9 @@ use Rattle.place.specs.Places.{instructionAt, following}
 -- ---- where it goes
 
 -- once done, it goes on or exits, as `end` says, at a place; or it meets a fault
-unfoldable pub endAt : (Record → List ℕ → Effect) → ℕ → Outcome → Effect
-endAt end place (does r ram) = end (withPlace r place) ram
-endAt end place (fails fault) = faults fault
+unfoldable pub endAt : (Record → List ℕ → Effect) → Record → ℕ → Outcome → Effect
+endAt end r place (does w ram) = end (applied r w place) ram
+endAt end r place (fails fault) = faults fault
 
 -- a branch that is taken goes to the first half of its target; one that has none means nothing listed
 unfoldable pub branchTo : Record → List ℕ → Target → Effect
@@ -66,22 +69,27 @@ unfoldable pub exitOf : List ℕ → ℕ → Exit
 exitOf page n = cond (leb 0x01 n && leb n 0x7F) (byLiteral n (wordAt page n)) (direct n)
 
 -- a terminator keeps its place at an exit, any other exit moves on
-unfoldable pub servedBy : Ending → Exit → ℕ → ℕ → Outcome → Effect
-servedBy ending.GoesOn exit here next o = endAt goesOn next o
-servedBy ending.Exit exit here next o = endAt (exits exit) next o
-servedBy ending.LastExit exit here next o = endAt (exits exit) here o
-servedBy ending.Bad exit here next o = unlisted
+unfoldable pub servedBy : Ending → Exit → Record → ℕ → Outcome → Effect
+servedBy ending.GoesOn exit r next o = endAt goesOn r next o
+servedBy ending.Exit exit r next o = endAt (exits exit) r next o
+servedBy ending.LastExit exit r next o = endAt (exits exit) r (r .place) o
+servedBy ending.Bad exit r next o = unlisted
 
 unfoldable pub served : List ℕ → List ℕ → Record → List ℕ → ℕ → Effect
 served page external r ram n =
-    servedBy (endingOf (serviceOf page n)) (exitOf page n) (r .place) (following page (r .place))
+    servedBy (endingOf (serviceOf page n)) (exitOf page n) r (following page (r .place))
     (serviceDoes (length external) (serviceOf page n) r ram)
 
 -- ---- every instruction
 
+-- a data-processing instruction reads registers, SP and flags
+abbrev pub writesOf : Operation → Record → Writes
+writesOf operation r =
+    keeping r (computed operation (r .regs) (r .sp) (r .flags) .register) (computed operation (r .regs) (r .sp) (r .flags) .flags)
+
 unfoldable pub effectOf : List ℕ → List ℕ → Record → List ℕ → Instruction → Effect
-effectOf page external r ram (Data operation) = endAt goesOn (following page (r .place)) (does (computed operation r) ram)
-effectOf page external r ram (Memory access) = endAt goesOn (following page (r .place)) (accessed page external access r ram)
+effectOf page external r ram (Data operation) = endAt goesOn r (following page (r .place)) (does (writesOf operation r) ram)
+effectOf page external r ram (Memory access) = endAt goesOn r (following page (r .place)) (accessed page external access r ram)
 effectOf page external r ram (Cbz imm6 n) = cbz page imm6 n r ram
 effectOf page external r ram (Cbnz imm6 n) = cbnz page imm6 n r ram
 effectOf page external r ram (Bcc condition imm8) = bcc page condition imm8 r ram

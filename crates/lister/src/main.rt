@@ -8,8 +8,8 @@ fn main() {
     let n = io::read_full(STDIN_FILENO, &mut input);
     let mut room = [0u8; 4096];
     let written = listing::list(&input[..n], &mut room);
-    let length = report::bytes_written(written);
-    if length <= room.len() {
-        io::write_all(STDOUT_FILENO, &room[..length]);
-    }
+    io::write_all(
+        STDOUT_FILENO,
+        text::first(&room, text::bytes_written(written)),
+    );
 }

@@ -1,19 +1,33 @@
--- No line of the listing is longer than 36 bytes.
-use mathlib.Core.Bool.{Bool}
-use Prim.Native.Nat.{ℕ, _≤_}
+-- A listing has at most 65 lines, of at most 36 bytes.
+use mathlib.Core.Path.{_≡_, refl}
+use mathlib.Core.Bool.{Bool, true, false, not, cond}
+use mathlib.Core.List.{List, _++_}
+use Prim.Native.Nat.{ℕ, zero, suc, _+_, _*_, _≤_}
 use native.Mathlib.Omega.{arith}
 use lib.ListN.{length, length-append}
-use Rattle.prefix.specs.declared.LargestSuccessor.{LargestSuccessor}
-use Rattle.report.specs.ListerLines.{headText, bundleText}
-use Rattle.report.proofs.Digits.{hex-length, decimal-length}
-use Rattle.report.proofs.ListerLines.{inside-length, largest-length}
+use Rattle.refusal.specs.declared.Refusal.the-variants.{PageLength}
+use Rattle.refusal.specs.declared.Verdict.the-variants.{Accepted, Refused}
+use Rattle.refusal.specs.Refusals.{refusalNumber}
+use Rattle.page.specs.Page.{pageFits, bundlesIn}
+use Rattle.page.proofs.Theorems.{fitting}
+use Rattle.count.specs.Count.{countOf}
+use Rattle.refusal_line.proofs.Lengths.{refused-length}
+use Rattle.lister_lines.proofs.Lengths.{head-length, line-length}
+use Rattle.listing.specs.Listing.{lineOf, bundleLines, listingBy, listingOf}
 
-pub head-length : (bundles count : ℕ) → length (headText bundles count) ≤ 36
-unfolding headText
-head-length bundles count = simp length-append (omega (arith, decimal-length bundles, decimal-length count))
+lines-length : (page : List ℕ) (k n : ℕ) → length (bundleLines page k n) ≤ 36 * n
+unfolding bundleLines
+lines-length page k zero = omega arith
+lines-length page k (suc n) =
+    let line : length (lineOf page k) ≤ 36 = line-length _ _ _ _ _ in
+    simp length-append (omega (arith, lines-length page (suc k) n))
 
-pub line-length : (k first second : ℕ) (inside : Bool) (largest : LargestSuccessor) → length (bundleText k first second inside largest) ≤ 36
-unfolding bundleText
-line-length k first second inside largest =
+by-fit : (page : List ℕ) (fits : Bool) → pageFits page ≡ fits
+    → length (listingBy page (cond (not fits) (Refused PageLength) Accepted)) ≤ 36 * 65
+by-fit page true e =
     simp length-append
-    (omega (arith, decimal-length k, hex-length 4 first, hex-length 4 second, inside-length inside, largest-length largest))
+    (omega (arith, fitting page e, head-length (bundlesIn page) (countOf page), lines-length page 0 (bundlesIn page)))
+by-fit page false e = omega (arith, refused-length (refusalNumber PageLength))
+
+pub listing-length : (page : List ℕ) → length (listingOf page) ≤ 36 * 65
+listing-length page = by-fit page (pageFits page) refl

@@ -4,11 +4,13 @@ use mathlib.Core.List.{List, [], _++_}
 use lib.Dec.{ltb}
 use Rattle.refusal.specs.declared.Verdict.{Verdict}
 use Rattle.refusal.specs.declared.Verdict.the-variants.{Accepted, Refused}
+use Rattle.refusal.specs.Refusals.{refusalNumber}
 use Rattle.page.specs.Page.{bundlesIn, firstOf, secondOf}
 use Rattle.prefix.specs.LargestSuccessor.{largestSuccessor}
 use Rattle.bundle.specs.Successors.{successorsOf}
 use Rattle.count.specs.Count.{countOf, countPage}
-use Rattle.report.specs.ListerLines.{headText, bundleText, refusedText}
+use Rattle.refusal_line.specs.RefusalLine.{refusedText}
+use Rattle.lister_lines.specs.Lines.{headText, bundleText}
 
 -- the line of bundle k: below the count it is ok, else out
 abbrev pub lineOf : List ℕ → ℕ → List ℕ
@@ -22,7 +24,7 @@ bundleLines page k (suc n) = lineOf page k ++ bundleLines page (suc k) n
 -- a page that is refused has one line
 abbrev pub listingBy : List ℕ → Verdict → List ℕ
 listingBy page Accepted = headText (bundlesIn page) (countOf page) ++ bundleLines page 0 (bundlesIn page)
-listingBy page (Refused refusal) = refusedText refusal
+listingBy page (Refused refusal) = refusedText (refusalNumber refusal)
 
 abbrev pub listingOf : List ℕ → List ℕ
 listingOf page = listingBy page (countPage page .verdict)

@@ -1,19 +1,32 @@
 -- What the code gives back, as the effect that it stands for; and a turn of the run.
 use Prim.Native.Nat.{ℕ, _+_, _-_, _/_, _≤_, _<_}
 use native.Mathlib.Omega.{arith}
-use mathlib.Core.Bool.{Bool, true, false, cond}
-use mathlib.Core.List.{List}
+use mathlib.Core.Bool.{Bool, true, false, cond, true≢false}
+use mathlib.Core.List.{List, [], _∷_}
+use types.Run.{OneOf, miss}
 use mathlib.Core.Path.{_≡_, refl, _∙_}
-use lib.ListN.{length}
-use Rattle.page.specs.Page.{firstOf}
+use lib.Dec.{ltb}
+use lib.ListN.{length, set, length-set}
+use borrow.Author.Tests.{ltb-true}
+use Rattle.page.specs.Page.{firstOf, secondOf}
 use Rattle.isa.specs.ListedEncodings.{opens32}
+use Rattle.isa.specs.declared.Operation.{Operation}
+use Rattle.isa.specs.declared.Instruction.{Instruction}
+use Rattle.isa.specs.declared.Instruction.the-variants.{Data}
+use Rattle.isa.specs.declared.Instruction.the-variants as instruction
 use Rattle.branch.specs.declared.Target.{Target}
 use Rattle.branch.specs.declared.Target.the-variants as target
 use Rattle.service.specs.Services.{serviceOf, endingOf}
 use Rattle.service.specs.declared.Ending.{Ending}
 use Rattle.service.specs.declared.Service.{Service}
 use Rattle.memory.specs.Faults.{faultNumber}
+use Rattle.state.specs.Writes.{writtenTo, applied}
 use Rattle.state.specs.declared.Record.{Record}
+use Rattle.state.specs.declared.Write.{Write}
+use Rattle.state.specs.declared.Write.the-variants.{NoRegister, Register}
+use Rattle.state.proofs.Registers.{set-eighth}
+use Rattle.compute.specs.Computed.{computed}
+use Rattle.compute.specs.declared.Computed.{Computed}
 use Rattle.access.specs.declared.Did.{Did}
 use Rattle.access.specs.Outcomes.{Outcome, does, fails, didOf, Does}
 use Rattle.access.specs.Outcomes as outcomes
@@ -22,8 +35,8 @@ use Rattle.stop.specs.Stops.{Exit, direct, byLiteral, service, fault}
 use Rattle.stop.specs.Stops as stops
 use Rattle.plain.specs.PlainMachine.{Effect, goesOn, exits, faults, unlisted, Result, onward, plain}
 use Rattle.plain.proofs.Theorems.{turn}
-use Rattle.place.specs.Places.{following}
-use Rattle.instruction.specs.Instructions.{endAt, branchTo, branchIf, exitOf, servedBy, served}
+use Rattle.place.specs.Places.{isEven, standsIn, instructionAt, following}
+use Rattle.instruction.specs.Instructions.{endAt, branchTo, branchIf, exitOf, servedBy, served, writesOf, effectOf, instructionOf}
 use Rattle.machine.specs.Executed.{exitEnd, executedOf, ramOf, Executes, endedBy}
 use Rattle.machine.specs.declared.End.{End}
 use Rattle.machine.specs.declared.End.the-variants.{GoesOn, Exits, ExitsBy, Fails, Unlisted}
@@ -46,9 +59,9 @@ exits-so exit r s ram after = (refl, refl)
 -- done as an outcome says, and it ends so at a place
 pub ends : (end : End) (effect : Record → List ℕ → Effect) → Ends end effect
     → (r : Record) (ram after : List ℕ) (place : ℕ) (o : Outcome) (d : Did)
-    → Does r ram o d after → Executes r ram (endAt effect place o) (endedBy end place (d .met) (d .after)) after
+    → Does ram o d after → Executes r ram (endAt effect r place o) (endedBy end r place d) after
 unfolding endedBy executedOf ramOf endAt didOf outcomes.ramOf
-ends end effect e r ram after place (does s m) d h = rw (h .0, h .1) (e r _ ram m)
+ends end effect e r ram after place (does w m) d h = rw (h .0, h .1) (e r _ ram m)
 ends end effect e r ram after place (fails f) d h = rw (h .0, h .1) (refl, refl)
 
 -- a branch changes no RAM
@@ -71,7 +84,7 @@ branching r ram taken held next behind t to x p q s h = rw (← p, ← q, ← s)
 pub serving : (page external : List ℕ) (r : Record) (ram : List ℕ) (n : ℕ) (s : Service) (e : Ending)
     → s ≡ serviceOf page n → e ≡ endingOf s
     → served page external r ram n
-    ≡ servedBy e (exitOf page n) (r .place) (following page (r .place)) (serviceDoes (length external) s r ram)
+    ≡ servedBy e (exitOf page n) r (following page (r .place)) (serviceDoes (length external) s r ram)
 unfolding served
 serving page external r ram n s e p q = rw (q, p)
 
@@ -111,3 +124,48 @@ turns instruction total steps r ram after x end result l h e inv =
     rw (← e, h .1, h .0)
     (onward-resumed steps r ram (plain instruction (total - (steps + 1)) (steps + 1)) (instruction r ram)
     ∙ turn instruction total steps r ram (instruction r ram) result l refl inv)
+
+-- ---- a data-processing instruction, in place
+
+-- an instruction of the tags 1 to 7 is none
+pub other-tag : OneOf (1 ∷ 2 ∷ 3 ∷ 4 ∷ 5 ∷ 6 ∷ 7 ∷ []) 0 → ⊥
+other-tag h = miss (1 ∷ 2 ∷ 3 ∷ 4 ∷ 5 ∷ 6 ∷ 7 ∷ []) 0 tt h
+
+pub data-inside : (page : List ℕ) (place : ℕ) (operation : Operation) → instructionAt page place ≡ Data operation
+    → place / 2 < length page / 4
+unfolding instructionAt
+data-inside page place operation =
+    by (ltb (place / 2) (length page / 4)) (standsIn (isEven place) (firstOf page (place / 2)) (secondOf page (place / 2))) refl
+  where
+    by : (t : Bool) (i : Instruction) → ltb (place / 2) (length page / 4) ≡ t → cond t i instruction.Unlisted ≡ Data operation
+        → place / 2 < length page / 4
+    by true i e h = ltb-true (place / 2) (length page / 4) e
+    by false i e h = absurd (true≢false cc)
+
+-- the record with one register written at most
+abbrev pub registered : Record → Write → Record
+registered r w = record { regs = writtenTo (r .regs) w; sp = r .sp; flags = r .flags; place = r .place; base = r .base }
+
+pub registered-length : (r s : Record) (w : Write) → s ≡ registered r w → length (r .regs) ≡ 8 → length (s .regs) ≡ 8
+registered-length r s NoRegister e l = rw e l
+registered-length r s (Register k x) e l = rw (e, length-set) l
+
+pub set-written : (r : Record) (w : Write) (k x : ℕ) (after : List ℕ) → w ≡ Register k x → length (r .regs) ≡ 8
+    → after ≡ cond (ltb k 8) (set (r .regs) k x) (r .regs)
+    → record { regs = after; sp = r .sp; flags = r .flags; place = r .place; base = r .base } ≡ registered r w
+set-written r w k x after e l h = rw (e, h, set-eighth (r .regs) k x l)
+
+pub none-written : (r : Record) (w : Write) → w ≡ NoRegister → r ≡ registered r w
+none-written r w e = rw e
+
+pub data-turn : (page external : List ℕ) (total steps : ℕ) (r s : Record) (ram : List ℕ) (operation : Operation) (c : Computed) (next : ℕ)
+    (result : Result) → steps < total → instructionAt page (r .place) ≡ Data operation
+    → c ≡ computed operation (r .regs) (r .sp) (r .flags) → next ≡ following page (r .place) → s ≡ registered r (c .register)
+    → plain (instructionOf page external) (total - steps) steps r ram ≡ result
+    → plain (instructionOf page external) (total - (steps + 1)) (steps + 1)
+    (record { regs = s .regs; sp = s .sp; flags = c .flags; place = next; base = s .base }) ram
+    ≡ result
+unfolding instructionOf effectOf endAt applied
+data-turn page external total steps r s ram operation c next result l i e n w h =
+    rw (w, e, n) (turn (instructionOf page external) total steps r ram
+    (goesOn (applied r (writesOf operation r) (following page (r .place))) ram) result l (rw i) h)

@@ -2,10 +2,13 @@
 use Prim.Native.Nat.{ℕ}
 use mathlib.Core.List.{List}
 use mathlib.Core.Path.{_≡_}
-use Rattle.memory.specs.declared.Stored.{Stored}
-use Rattle.memory.specs.declared.Stored.the-variants as stored
-use Rattle.state.specs.Record.{withPlace}
+use Rattle.isa.specs.declared.Operation.{Operation}
+use Rattle.isa.specs.declared.Instruction.{Instruction}
+use Rattle.isa.specs.declared.Instruction.the-variants.{Data}
+use Rattle.state.specs.Writes.{applied}
 use Rattle.state.specs.declared.Record.{Record}
+use Rattle.access.specs.declared.Did.{Did}
+use Rattle.access.specs.declared.Did.the-variants as did
 use Rattle.stop.specs.Stops.{Exit, direct, byLiteral}
 use Rattle.plain.specs.PlainMachine.{Effect, goesOn, exits, faults, unlisted}
 use Rattle.machine.specs.declared.End.{End}
@@ -37,6 +40,9 @@ abbrev pub ExecutesAny : Record → (List ℕ → Effect) → Executed → Type 
 ExecutesAny r e x = (ram : List ℕ) → x ≡ executedOf r (e ram)
 
 -- done, and it ends so at a place; or a fault was met
-unfoldable pub endedBy : End → ℕ → Stored → Record → Executed
-endedBy end place stored.Done s = record { end = end; after = withPlace s place }
-endedBy end place (stored.Fails fault) s = record { end = Fails fault; after = s }
+unfoldable pub endedBy : End → Record → ℕ → Did → Executed
+endedBy end r place (did.Writes w) = record { end = end; after = applied r w place }
+endedBy end r place (did.Fails fault) = record { end = Fails fault; after = r }
+
+abbrev pub NotData : Instruction → Type 0
+NotData i = (operation : Operation) → i ≡ Data operation → ⊥

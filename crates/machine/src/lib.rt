@@ -3,23 +3,20 @@ ghost use mathlib.Core.Path.{_≡_};
 ghost use Prim.Native.Nat.{_<_, _≤_};
 ghost use lib.ListN.{length};
 ghost use Rattle.branch.specs.Branches.{Near};
-ghost use Rattle.memory.specs.declared.Stored.the-variants.{Done};
-ghost use Rattle.compute.specs.Computed as computing;
 ghost use Rattle.plain.specs.PlainMachine.{unlisted, plain};
-ghost use Rattle.place.specs.Places.{following};
+ghost use Rattle.place.specs.Places.{instructionAt, following};
 ghost use Rattle.instruction.specs.Instructions as instructions;
 ghost use Rattle.instruction.specs.Instructions.{branchTo, branchIf, exitOf, served, effectOf, instructionOf};
-ghost use Rattle.machine.specs.Executed.{exitEnd, executedOf, endedBy, Executes, ExecutesAny};
+ghost use Rattle.machine.specs.Executed.{exitEnd, executedOf, endedBy, NotData, Executes, ExecutesAny};
 ghost use Rattle.machine.specs.Runs.{seen, Gives};
 use access::Did;
 use branch::Target;
 use isa::Instruction;
-use isa::Operation;
 use memory::Fault;
-use memory::Stored;
 use refusal::Verdict;
 use service::Ending;
 use state::Record;
+use state::Write;
 use stop::Stop;
 
 // How an instruction ended.
@@ -49,19 +46,17 @@ pub struct Answer {
 // ---- where an instruction goes
 
 // What was done ends so at a place, unless a fault was met.
-fn ended(d: Did, end: End, place: u16) -> Executed
-    ensures { λ x. ⌜ x ≡ endedBy end place (d .met) (d .after) ⌝ }
+fn ended(r: Record, d: Did, end: End, place: u16) -> Executed
+    ensures { λ x. ⌜ x ≡ endedBy end r place d ⌝ }
 {
-    let met = d.met;
-    let after = d.after;
-    match met {
-        Stored::Done => Executed {
+    match d {
+        Did::Writes(w) => Executed {
             end,
-            after: state::set_place(after, place),
+            after: state::applied(r, w, place),
         },
-        Stored::Fails(fault) => Executed {
+        Did::Fails(fault) => Executed {
             end: End::Fails(fault),
-            after,
+            after: r,
         },
     }
 }
@@ -180,9 +175,15 @@ fn serve(page: &[u8], external: &[u8], n: u8, r: Record, ram: &mut [u8]) -> Exec
     let s = service::service_of(page, n);
     let next = next_place(page, r.place);
     match service::ending_of(s) {
-        Ending::GoesOn => ended(effects::serve(external, s, r, ram), End::GoesOn, next),
-        Ending::Exit => ended(effects::serve(external, s, r, ram), exit_end(page, n), next),
+        Ending::GoesOn => ended(r, effects::serve(external, s, r, ram), End::GoesOn, next),
+        Ending::Exit => ended(
+            r,
+            effects::serve(external, s, r, ram),
+            exit_end(page, n),
+            next,
+        ),
         Ending::LastExit => ended(
+            r,
             effects::serve(external, s, r, ram),
             exit_end(page, n),
             r.place,
@@ -193,28 +194,15 @@ fn serve(page: &[u8], external: &[u8], n: u8, r: Record, ram: &mut [u8]) -> Exec
 
 // ---- one instruction
 
-// What a data-processing instruction does.
-fn computed(operation: Operation, r: Record) -> Did
-    ensures { λ d. ⌜ d ≡ record { met = Done; after = computing.computed operation r } ⌝ }
-{
-    Did {
-        met: Stored::Done,
-        after: compute::compute(operation, r),
-    }
-}
-
-// The instruction i, which stands at the record's place.
+// The instruction i, which stands at the record's place. The data-processing ones are the run's own.
 fn perform(page: &[u8], external: &[u8], i: Instruction, r: Record, ram: &mut [u8]) -> Executed
-    requires { ⌜ r .place < 128 ⌝ }
+    requires { ⌜ (r .place < 128) × NotData i ⌝ }
     ensures { λ x. ⌜ Executes r (now (ram .entry)) (effectOf (now (page .entry)) (now (external .entry)) r (now (ram .entry)) i) x (now (ram .exit)) ⌝ }
 {
     match i {
-        Instruction::Data(operation) => ended(
-            computed(operation, r),
-            End::GoesOn,
-            next_place(page, r.place),
-        ),
+        Instruction::Data(_) => unlisted(r),
         Instruction::Memory(access) => ended(
+            r,
             access::perform(page, external, access, r, ram),
             End::GoesOn,
             next_place(page, r.place),
@@ -228,13 +216,13 @@ fn perform(page: &[u8], external: &[u8], i: Instruction, r: Record, ram: &mut [u
     }
 }
 
-// The instruction at the record's place; past the page there is none.
-fn execute(page: &[u8], external: &[u8], r: Record, ram: &mut [u8]) -> Executed
-    requires { ⌜ length (now page) ≤ 256 ⌝ }
+// The instruction i, which was found at the record's place; past the page there is none.
+fn execute(page: &[u8], external: &[u8], i: Instruction, r: Record, ram: &mut [u8]) -> Executed
+    requires { ⌜ (length (now page) ≤ 256) × (i ≡ instructionAt (now page) (r .place)) × NotData i ⌝ }
     ensures { λ x. ⌜ Executes r (now (ram .entry)) (instructionOf (now (page .entry)) (now (external .entry)) r (now (ram .entry))) x (now (ram .exit)) ⌝ }
 {
     if ((r.place / 2) as usize) < page.len() / 4 {
-        perform(page, external, place::instruction_at(page, r.place), r, ram)
+        perform(page, external, i, r, ram)
     } else {
         unlisted(r)
     }
@@ -248,7 +236,7 @@ fn stopped(stop: Stop, steps: u32, after: Record) -> Answer
     Answer { stop, steps, after }
 }
 
-// Until the budget is spent or an instruction doesn't go on.
+// Until the budget is spent or an instruction doesn't go on. What a data-processing instruction writes is written in place.
 fn run_on(page: &[u8], external: &[u8], start: Record, ram: &mut [u8], budget: u32) -> Answer
     requires { ⌜ length (now page) ≤ 256 ⌝ }
     ensures { λ a. ⌜ seen a (now (ram .exit)) ≡ plain (instructionOf (now (page .entry)) (now (external .entry))) budget 0 start (now (ram .entry)) ⌝ }
@@ -256,22 +244,33 @@ fn run_on(page: &[u8], external: &[u8], start: Record, ram: &mut [u8], budget: u
     let mut r = start;
     let mut steps: u32 = 0;
     while steps < budget {
-        let x = execute(page, external, r, ram);
-        let end = x.end;
-        let after = x.after;
-        match end {
-            End::GoesOn => {
-                r = after;
-                steps += 1;
+        let i = place::instruction_at(page, r.place);
+        if let Instruction::Data(operation) = i {
+            let f = r.flags;
+            let next = next_place(page, r.place);
+            let c = compute::compute(operation, &r.regs, r.sp, f);
+            let register = c.register;
+            let flags = c.flags;
+            if let Write::Register(k, x) = register {
+                state::set_in(&mut r.regs, k, x);
             }
-            End::Exits(n) => return stopped(Stop::Service(n), steps + 1, after),
-            End::ExitsBy(n, literal) => return stopped(
-                Stop::ServiceBy(n, literal),
-                steps + 1,
-                after,
-            ),
-            End::Fails(fault) => return stopped(Stop::Fault(fault), steps, after),
-            End::Unlisted => return stopped(Stop::Unlisted, steps, after),
+            r.flags = flags;
+            r.place = next;
+            steps += 1;
+        } else {
+            let x = execute(page, external, i, r, ram);
+            let end = x.end;
+            let after = x.after;
+            match end {
+                End::GoesOn => {
+                    r = after;
+                    steps += 1;
+                }
+                End::Exits(n) => return stopped(Stop::Service(n), steps + 1, after),
+                End::ExitsBy(n, word) => return stopped(Stop::ServiceBy(n, word), steps + 1, after),
+                End::Fails(fault) => return stopped(Stop::Fault(fault), steps, after),
+                End::Unlisted => return stopped(Stop::Unlisted, steps, after),
+            }
         }
     }
     stopped(Stop::Budget, steps, r)

@@ -1,6 +1,13 @@
 // The bytes of a page, as bytes, halfwords and words.
 ghost use mathlib.Core.Path.{_≡_};
-ghost use Rattle.page.specs.Page.{halfwordAt, wordAt, pageFits};
+ghost use Prim.Native.Nat.{_+_, _*_};
+ghost use Rattle.page.specs.Page.{firstOf, secondOf, wordAt, pageFits};
+
+// The two halfwords of a bundle.
+pub struct Halves {
+    pub first: u16,
+    pub second: u16,
+}
 
 // A page has an allowed length.
 pub fn fits(page: &[u8]) -> bool
@@ -12,20 +19,34 @@ pub fn fits(page: &[u8]) -> bool
     page.len() % 4 == 0
 }
 
-// The halfword at a place.
-pub fn halfword(page: &[u8], place: u32) -> u16
-    ensures { λ r. ⌜ r ≡ halfwordAt (now (page .entry)) place ⌝ }
+// Lowest byte first.
+fn joined(low: u8, high: u8) -> u16
+    ensures { λ h. ⌜ h ≡ low + 256 * high ⌝ }
 {
-    let i = 2 * (place as usize);
-    endian::byte(page, i) as u16 + 256 * (endian::byte(page, i + 1) as u16)
+    low as u16 + 256 * (high as u16)
 }
 
-// The word at a bundle.
-pub fn word(page: &[u8], bundle: u32) -> u32
-    ensures { λ r. ⌜ r ≡ wordAt (now (page .entry)) bundle ⌝ }
+// The halfwords of bundle k. A bundle that lies in the page is read with one test for its four bytes.
+pub fn halves_of(page: &[u8], k: u32) -> Halves
+    ensures { λ h. ⌜ h ≡ record { first = firstOf (now (page .entry)) k; second = secondOf (now (page .entry)) k } ⌝ }
 {
-    let i = 4 * (bundle as usize);
-    let low = endian::byte(page, i) as u32 + 256 * (endian::byte(page, i + 1) as u32);
-    let high = endian::byte(page, i + 2) as u32 + 256 * (endian::byte(page, i + 3) as u32);
-    low + 65536 * high
+    let i = 4 * (k as usize);
+    if (k as usize) < page.len() / 4 {
+        return Halves {
+            first: joined(page[i], page[i + 1]),
+            second: joined(page[i + 2], page[i + 3]),
+        };
+    }
+    Halves {
+        first: joined(endian::byte(page, i), endian::byte(page, i + 1)),
+        second: joined(endian::byte(page, i + 2), endian::byte(page, i + 3)),
+    }
+}
+
+// The word of bundle k.
+pub fn word(page: &[u8], k: u32) -> u32
+    ensures { λ r. ⌜ r ≡ wordAt (now (page .entry)) k ⌝ }
+{
+    let h = halves_of(page, k);
+    h.first as u32 + 65536 * (h.second as u32)
 }

@@ -25,11 +25,8 @@ pub fn instruction_at(page: &[u8], place: u16) -> Instruction
 {
     let k = (place / 2) as u32;
     if (k as usize) < page.len() / 4 {
-        stands_in(
-            place % 2 == 0,
-            page::halfword(page, 2 * k),
-            page::halfword(page, 2 * k + 1),
-        )
+        let h = page::halves_of(page, k);
+        stands_in(place % 2 == 0, h.first, h.second)
     } else {
         Instruction::Unlisted
     }
@@ -40,8 +37,8 @@ pub fn next_place(page: &[u8], place: u16) -> u32
     ensures { λ p. ⌜ p ≡ following (now (page .entry)) place ⌝ }
 {
     let k = (place / 2) as u32;
-    let first = page::halfword(page, 2 * k);
-    if isa::opens_32(first) {
+    let h = page::halves_of(page, k);
+    if isa::opens_32(h.first) {
         place as u32 + 2
     } else {
         place as u32 + 1
@@ -72,9 +69,6 @@ pub fn is_fit(page: &[u8], place: u16) -> bool
     if place % 2 == 0 {
         return true;
     }
-    second_fits(
-        page,
-        page::halfword(page, 2 * k),
-        page::halfword(page, 2 * k + 1),
-    )
+    let h = page::halves_of(page, k);
+    second_fits(page, h.first, h.second)
 }

@@ -1,6 +1,7 @@
 -- The record: its parts read and changed, the fresh record, fit records.
 use Prim.Native.Nat.{ℕ, _%_, _^_}
 use mathlib.Core.Bool.{Bool, true, false, _&&_}
+use mathlib.Core.List.{List}
 use lib.Dec.{eqb, ltb, leb}
 use lib.ListN.{getD, set, replicate}
 use Rattle.arm.specs.declared.Flags.{Flags}
@@ -18,8 +19,12 @@ freshRecord = record {
   base = Nothing;
 }
 
+-- register k of the eight
+abbrev pub registerIn : List ℕ → ℕ → ℕ
+registerIn regs k = getD regs k 0
+
 abbrev pub register : Record → ℕ → ℕ
-register r k = getD (r .regs) k 0
+register r k = registerIn (r .regs) k
 
 unfoldable pub withRegister : Record → ℕ → ℕ → Record
 withRegister r k x = record { regs = set (r .regs) k x; sp = r .sp; flags = r .flags; place = r .place; base = r .base }

@@ -11,7 +11,6 @@ use endian::Size;
 use libc::STDIN_FILENO;
 use libc::STDOUT_FILENO;
 use machine::Answer;
-use report::Written;
 use state::Base;
 use state::Record;
 
@@ -89,20 +88,13 @@ fn show_line(text: &[u8]) {
     show(b"\n");
 }
 
-fn show_written(room: &[u8], written: Written) {
-    let length = report::bytes_written(written);
-    if length <= room.len() {
-        show(&room[..length]);
-    }
-}
-
 // It answers the record afterwards, and so do the calls below.
 fn show_answer(answer: Answer) -> Record {
     let stop = answer.stop;
     let after = answer.after;
     let mut room = [0u8; 512];
     let written = transcript::write(stop, answer.steps, after, &mut room);
-    show_written(&room, written);
+    show(text::first(&room, text::bytes_written(written)));
     after
 }
 

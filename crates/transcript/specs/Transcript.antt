@@ -4,7 +4,7 @@ use mathlib.Core.Bool.{Bool, true, false, cond}
 use mathlib.Core.List.{List, _++_}
 use Rattle.state.specs.declared.Record.{Record}
 use Rattle.stop.specs.Stops.{Reason, budget, service, fault, unlisted, refused}
-use Rattle.report.specs.RunnerLines.{stopText, stepsText, placeText, regsText, flagsText}
+use Rattle.runner_lines.specs.Lines.{stopText, stepsText, placeText, regsText, flagsText}
 
 abbrev pub isRefusal : Reason → Bool
 isRefusal budget = false

@@ -1,68 +1,13 @@
 // The runner's whole output, made as bytes in lent room.
-use arm::Flags;
-use report::Written;
 use state::Record;
 use stop::Stop;
+use text::Written;
 ghost use mathlib.Core.Path.{_≡_};
-ghost use Prim.Native.Nat.{_+_, _*_, _≤_};
-ghost use lib.ListN.{length, take};
+ghost use lib.ListN.{length};
 ghost use Rattle.stop.specs.Stops.{reasonOf};
-ghost use Rattle.report.specs.RunnerLines.{stopText, stepsText, placeText, regsText, flagsText};
-ghost use Rattle.report.specs.Room.{writtenOf, placed};
-ghost use Rattle.report.specs.Text.{Extended};
-ghost use Rattle.transcript.specs.Transcript.{isRefusal, runLines, transcriptOf};
-
-// A line has at most 96 bytes. Each of the next five puts one behind the first bytes of the text, and answers where it ends.
-
-fn put_stop(text: &mut [u8], stop: Stop) -> usize
-    requires { ⌜ 96 ≤ length (now text) ⌝ }
-    ensures { λ end. ⌜ Extended (now (text .entry)) 0 (stopText (reasonOf stop)) end (now (text .exit)) ⌝ }
-{
-    report::bytes_written(report::stop_line(text, stop))
-}
-
-fn put_steps(text: &mut [u8], at: usize, steps: u32) -> usize
-    requires { ⌜ at + 96 ≤ length (now text) ⌝ }
-    ensures { λ end. ⌜ Extended (now (text .entry)) at (stepsText steps) end (now (text .exit)) ⌝ }
-{
-    at + report::bytes_written(report::steps_line(&mut text[at..], steps))
-}
-
-fn put_place(text: &mut [u8], at: usize, place: u16) -> usize
-    requires { ⌜ at + 96 ≤ length (now text) ⌝ }
-    ensures { λ end. ⌜ Extended (now (text .entry)) at (placeText place) end (now (text .exit)) ⌝ }
-{
-    at + report::bytes_written(report::place_line(&mut text[at..], place))
-}
-
-fn put_regs(text: &mut [u8], at: usize, regs: [u32; 8]) -> usize
-    requires { ⌜ at + 96 ≤ length (now text) ⌝ }
-    ensures { λ end. ⌜ Extended (now (text .entry)) at (regsText regs) end (now (text .exit)) ⌝ }
-{
-    at + report::bytes_written(report::regs_line(&mut text[at..], regs))
-}
-
-fn put_flags(text: &mut [u8], at: usize, flags: Flags) -> usize
-    requires { ⌜ at + 96 ≤ length (now text) ⌝ }
-    ensures { λ end. ⌜ Extended (now (text .entry)) at (flagsText flags) end (now (text .exit)) ⌝ }
-{
-    at + report::bytes_written(report::flags_line(&mut text[at..], flags))
-}
-
-// The five lines, and where they end.
-fn put_lines(text: &mut [u8], stop: Stop, steps: u32, r: Record) -> usize
-    requires { ⌜ 5 * 96 ≤ length (now text) ⌝ }
-    ensures { λ end. ⌜ (end ≤ length (now (text .exit)))
-        × (take end (now (text .exit)) ≡ runLines (reasonOf stop) steps r) ⌝ }
-{
-    let regs = r.regs;
-    let flags = r.flags;
-    let at = put_stop(text, stop);
-    let at = put_steps(text, at, steps);
-    let at = put_place(text, at, r.place);
-    let at = put_regs(text, at, regs);
-    put_flags(text, at, flags)
-}
+ghost use Rattle.text.specs.Room.{writtenOf, placed};
+ghost use Rattle.text.specs.Text.{Puts};
+ghost use Rattle.transcript.specs.Transcript.{isRefusal, transcriptOf};
 
 fn is_refusal(stop: Stop) -> bool
     ensures { λ t. ⌜ t ≡ isRefusal (reasonOf stop) ⌝ }
@@ -77,15 +22,28 @@ fn is_refusal(stop: Stop) -> bool
     }
 }
 
-// The output goes to the start of the room, or nothing does.
+// A refusal is one line, any other stop the first of five.
+fn put_run(text: &mut [u8], stop: Stop, steps: u32, r: Record) -> usize
+    ensures { λ end. ⌜ Puts (now (text .entry)) 0 (transcriptOf (reasonOf stop) steps r) end (now (text .exit)) ⌝ }
+{
+    let regs = r.regs;
+    let flags = r.flags;
+    let at = runner_lines::stop_line(text, 0, stop);
+    if is_refusal(stop) {
+        return at;
+    }
+    let at = runner_lines::steps_line(text, at, steps);
+    let at = runner_lines::place_line(text, at, r.place);
+    let at = runner_lines::regs_line(text, at, regs);
+    runner_lines::flags_line(text, at, flags)
+}
+
+// The output goes to the start of the room, or nothing does. The five lines have at most so many bytes.
 pub fn write(stop: Stop, steps: u32, r: Record, room: &mut [u8]) -> Written
     ensures { λ w. ⌜ (w ≡ writtenOf (transcriptOf (reasonOf stop) steps r) (length (now (room .entry))))
         × (now (room .exit) ≡ placed (transcriptOf (reasonOf stop) steps r) (now (room .entry))) ⌝ }
 {
-    if is_refusal(stop) {
-        return report::stop_line(room, stop);
-    }
-    let mut text = [0u8; 5 * 96];
-    let end = put_lines(&mut text, stop, steps, r);
-    report::place(&text[..end], room)
+    let mut text = [0u8; 25 + 17 + 17 + 77 + 11];
+    let end = put_run(&mut text, stop, steps, r);
+    text::place(text::first(&text, end), room)
 }

@@ -1,9 +1,9 @@
 // The runner's run of a page, and its whole output as bytes in lent room.
 ghost use mathlib.Core.Path.{_≡_};
 ghost use lib.ListN.{length};
-ghost use Rattle.report.specs.Room.{writtenOf, placed};
+ghost use Rattle.text.specs.Room.{writtenOf, placed};
 ghost use Rattle.trial.specs.Trial.{trialOf};
-use report::Written;
+use text::Written;
 
 // The output goes to the start of the room, or nothing does.
 pub fn try_page(page: &[u8], room: &mut [u8]) -> Written

@@ -5,7 +5,6 @@ use memory::Fault;
 use memory::Loaded;
 use memory::Stored;
 use refusal::Verdict;
-use report::Written;
 use state::Base;
 
 fn show(text: &[u8]) {
@@ -17,18 +16,11 @@ fn show_number(x: u64) {
     io::print_decimal(STDOUT_FILENO, x);
 }
 
-fn show_line(room: &[u8], written: Written) {
-    let length = report::bytes_written(written);
-    if length <= room.len() {
-        show(&room[..length]);
-    }
-}
-
 fn show_verdict(verdict: Verdict) {
-    let mut room = [0u8; 64];
+    let mut line = [0u8; 64];
     if let Verdict::Refused(refusal) = verdict {
-        let written = report::refused_line(&mut room, refusal);
-        show_line(&room, written);
+        let end = refusal_line::put(&mut line, 0, refusal);
+        show(text::first(&line, end));
     }
 }
 
@@ -37,7 +29,7 @@ fn show_verdict(verdict: Verdict) {
 fn list(page: &[u8]) {
     let mut room = [0u8; 4096];
     let written = listing::list(page, &mut room);
-    show_line(&room, written);
+    show(text::first(&room, text::bytes_written(written)));
 }
 
 fn pages() {

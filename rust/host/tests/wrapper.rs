@@ -1,8 +1,8 @@
 //! Each function against 01: what it answers, and each refusal it has.
 
 use marshbodkin::{
-    calls, count, load, read_bundle, run, step, store, validate, Base, Fault, Flags,
-    LargestSuccessor, Record, Refusal, Stop, Stopped, RAM_LENGTH, RECORD_LENGTH,
+    calls, count, load, read_bundle, run, step, store, validate, Base, Fault, Flags, LargestSuccessor, Record,
+    Refusal, Stop, Stopped, RAM_LENGTH, RECORD_LENGTH,
 };
 
 /// 01's printed page: four bundles, of which three are counted.
@@ -73,10 +73,7 @@ fn counts_and_bundles() {
     assert_eq!(read_bundle(&page, 0), Ok(LargestSuccessor::Largest(2)));
     assert_eq!(read_bundle(&page, 1), Ok(LargestSuccessor::Nothing));
     assert_eq!(read_bundle(&page, 3), Ok(LargestSuccessor::Largest(4)));
-    assert_eq!(
-        read_bundle(&page_of(&[0xDE00, 0xDE00]), 0),
-        Ok(LargestSuccessor::Bad)
-    );
+    assert_eq!(read_bundle(&page_of(&[0xDE00, 0xDE00]), 0), Ok(LargestSuccessor::Bad));
     assert_eq!(read_bundle(&page, 4), Err(Refusal::NoSuchBundle));
     assert_eq!(read_bundle(&page[1..], 4), Err(Refusal::PageLength));
 }

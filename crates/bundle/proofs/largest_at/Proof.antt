@@ -1,5 +1,6 @@
 use mathlib.Core.Path.{sym, ap, _∙_}
 use Prim.Native.Nat.{_+_}
+use Rattle.page.specs.declared.Halves.{Halves}
 use Rattle.prefix.specs.LargestSuccessor.{largestSuccessor}
 use Rattle.isa.specs.declared.Instruction.{Instruction}
 use Rattle.bundle.specs.Successors.{wide}
@@ -11,13 +12,13 @@ use Rattle.bundle.proofs.largest_at.Tie as tie
 returns : tie.Need-returns
 returns c =
     c .of-wide .ensures
-    ∙ ap (λ (i : Instruction). largestSuccessor (wide i (c .before .before .before .before .before .before .before .args .k + 1))) (c .before .decode32 .ensures)
-    ∙ wide-case (c .before .before .before .before .before .before .before .args .page .now) (c .before .before .before .before .before .before .before .args .k) _ _ (c .before .before .before .before .before .halfword .ensures) (c .before .before .before .before .halfword2 .ensures)
+    ∙ ap (λ (i : Instruction). largestSuccessor (wide i (c .before .before .before .before .before .before .args .k + 1))) (c .before .decode32 .ensures)
+    ∙ wide-case (c .before .before .before .before .before .before .args .page .now) (c .before .before .before .before .before .before .args .k) _ _ (ap (λ (h : Halves). h .first) (c .before .before .before .before .halves-of .ensures)) (ap (λ (h : Halves). h .second) (c .before .before .before .before .halves-of .ensures))
     (sym (c .before .before .before .opens-32 .ensures) ∙ c .before .before .if1 .taken)
 
 returns-2 : tie.Need-returns-2
 returns-2 c =
-    late-opening (c .before .before .before .before .before .before .before .args .page .now) (c .before .before .before .before .before .before .before .args .k) _ _ (c .before .before .before .before .before .halfword .ensures) (c .before .before .before .before .halfword2 .ensures)
+    late-opening (c .before .before .before .before .before .before .args .page .now) (c .before .before .before .before .before .before .args .k) _ _ (ap (λ (h : Halves). h .first) (c .before .before .before .before .halves-of .ensures)) (ap (λ (h : Halves). h .second) (c .before .before .before .before .halves-of .ensures))
     (sym (c .before .before .before .opens-32 .ensures) ∙ c .before .before .if1 .left) (sym (c .before .opens-322 .ensures) ∙ c .if2 .taken)
 
 returns-3 : tie.Need-returns-3
@@ -30,12 +31,11 @@ returns-3 c =
       c .before .before .before .before .decode162 .ensures,
       c .before .before .before .before .before .decode16 .ensures,
     )
-    (narrow-case (c .before .before .before .before .before .before .before .before .before .before .before .before .before .args .page .now) (c .before .before .before .before .before .before .before .before .before .before .before .before .before .args .k) _ _ (c .before .before .before .before .before .before .before .before .before .before .before .halfword .ensures) (c .before .before .before .before .before .before .before .before .before .before .halfword2 .ensures)
+    (narrow-case (c .before .before .before .before .before .before .before .before .before .before .before .before .args .page .now) (c .before .before .before .before .before .before .before .before .before .before .before .before .args .k) _ _ (ap (λ (h : Halves). h .first) (c .before .before .before .before .before .before .before .before .before .before .halves-of .ensures)) (ap (λ (h : Halves). h .second) (c .before .before .before .before .before .before .before .before .before .before .halves-of .ensures))
     (sym (c .before .before .before .before .before .before .before .before .before .opens-32 .ensures) ∙ c .before .before .before .before .before .before .before .before .if1 .left) (sym (c .before .before .before .before .before .before .before .opens-322 .ensures) ∙ c .before .before .before .before .before .before .if2 .left))
 
 pub largest-at-spec : {M : Type 1} → statement M
 largest-at-spec = tie.close (tie.spec (λ c. search needs) (λ c. search needs) (λ c. search needs)
-    (λ c. search needs) (λ c. search needs) (λ c. search needs) (λ c. search needs)
     (λ c. search needs) (λ c. search needs) returns (λ c. search needs) returns-2
     (λ c. search needs) (λ c. search needs) (λ c. search needs) (λ c. search needs)
     (λ c. search needs) (λ c. search needs) (λ c. search needs) (λ c. search needs)

@@ -5,12 +5,12 @@ use Rattle.machine.proofs.ended.Tie as tie
 
 returns : tie.Need-returns
 unfolding endedBy
-returns c = rw (c .before .enum-told .given .1, c .set-place .ensures)
+returns c = rw (c .before .before .d .given .1, c .applied .ensures)
 
 returns-2 : tie.Need-returns-2
 unfolding endedBy
-returns-2 c = rw (c .before .met .given .1)
+returns-2 c = rw (c .before .d2 .given .1)
 
 pub ended-spec : {M : Type 1} → statement M
-ended-spec = tie.close (tie.spec (λ c. search needs) (λ c. search needs) (λ c. search needs) returns
+ended-spec = tie.close (tie.spec (λ c. search needs) (λ c κs. tt) (λ c. search needs) returns
     returns-2)

@@ -1,52 +1,47 @@
 use mathlib.Core.Path.{refl}
-use Rattle.machine.proofs.Laws.{goes-on, ends, branch-ram, branch-if-ram}
-use Rattle.access.specs.Outcomes.{does, didOf}
-use Rattle.access.specs.Outcomes as outcomes
-use Rattle.machine.specs.Executed.{ramOf}
 use Rattle.instruction.specs.Instructions.{effectOf}
+use Rattle.machine.specs.Executed.{ramOf}
+use Rattle.machine.proofs.Laws.{goes-on, ends, branch-ram, branch-if-ram}
 use borrow.Author.Needs.{needs}
 use Rattle.machine.proofs.perform.Statement.{statement}
 use Rattle.machine.proofs.perform.Tie as tie
 
 returns : tie.Need-returns
-unfolding effectOf didOf outcomes.ramOf
-returns c = rw (c .before .before .before .before .i .given .1, c .ended .ensures, c .before .next-place .ensures)
-    (ends _ _ goes-on _ _ _ _ (does _ _) _ (c .before .before .computed .ensures, refl))
+returns c = absurd (c .before .before .before .before .before .before .pre .1 _ (c .before .enum-told .given .1))
 
 returns-2 : tie.Need-returns-2
 unfolding effectOf
-returns-2 c = rw (c .before .before .before .before .before .before .before .i2 .given .1, c .ended2 .ensures, c .before .next-place2 .ensures)
+returns-2 c = rw (c .before .before .before .before .before .before .before .i .given .1, c .ended .ensures, c .before .next-place .ensures)
     (ends _ _ goes-on _ _ _ _ _ _ (c .before .before .before .before .perform .ensures))
 
 returns-3 : tie.Need-returns-3
 unfolding effectOf
-returns-3 c = rw (c .before .before .i3 .given .1) (c .cbz .ensures _, branch-if-ram _ _ _ _ _)
+returns-3 c = rw (c .before .before .i2 .given .1) (c .cbz .ensures _, branch-if-ram _ _ _ _ _)
 
 returns-4 : tie.Need-returns-4
 unfolding effectOf
-returns-4 c = rw (c .before .before .i4 .given .1) (c .cbnz .ensures _, branch-if-ram _ _ _ _ _)
+returns-4 c = rw (c .before .before .i3 .given .1) (c .cbnz .ensures _, branch-if-ram _ _ _ _ _)
 
 returns-5 : tie.Need-returns-5
 unfolding effectOf
-returns-5 c = rw (c .before .before .i5 .given .1) (c .bcc .ensures _, branch-if-ram _ _ _ _ _)
+returns-5 c = rw (c .before .before .i4 .given .1) (c .bcc .ensures _, branch-if-ram _ _ _ _ _)
 
 returns-6 : tie.Need-returns-6
 unfolding effectOf
-returns-6 c = rw (c .before .before .i6 .given .1) (c .b .ensures _, branch-ram _ _ _)
+returns-6 c = rw (c .before .before .i5 .given .1) (c .b .ensures _, branch-ram _ _ _)
 
 returns-7 : tie.Need-returns-7
 unfolding effectOf
-returns-7 c = rw (c .before .before .before .before .before .i7 .given .1) (c .before .before .serve .ensures)
+returns-7 c = rw (c .before .before .before .before .before .i6 .given .1) (c .before .before .serve .ensures)
 
 returns-8 : tie.Need-returns-8
 unfolding effectOf ramOf
-returns-8 c = rw (c .before .enum-told .given .1) (c .unlisted .ensures, refl)
+returns-8 c = rw (c .before .enum-told2 .given .1) (c .unlisted2 .ensures, refl)
 
 pub perform-spec : {M : Type 1} → statement M
 perform-spec = tie.close (tie.spec (λ c. search needs) (λ c. search needs) (λ c. search needs)
     (λ c. search needs) (λ c. search needs) (λ c. search needs) (λ c. search needs)
     (λ c. search needs) (λ c. search needs) (λ c. search needs) (λ c. search needs)
     (λ c. search needs) (λ c. search needs) (λ c. search needs) (λ c. search needs)
-    (λ c. search needs) (λ c. search needs) (λ c. search needs) (λ c. search needs)
-    (λ c. search needs) returns (λ c. search needs) returns-2 returns-3 returns-4 returns-5
-    returns-6 (λ c. search needs) returns-7 returns-8)
+    (λ c. search needs) (λ c. search needs) (λ c. search needs) returns (λ c. search needs)
+    returns-2 returns-3 returns-4 returns-5 returns-6 (λ c. search needs) returns-7 returns-8)

@@ -1,13 +1,14 @@
-use borrow.Author.Needs.{needs}
 use Prim.Native.Nat.{_-_, _≤_}
 use native.Mathlib.Nat.{sub-zero}
 use native.Mathlib.Omega.{arith}
 use lib.ListN.{length}
+use mathlib.Core.Logic.{⊎-elim}
 use mathlib.Core.Path.{_≡_, refl, sym, _∙_}
 use Rattle.plain.specs.PlainMachine.{plain}
 use Rattle.plain.proofs.Theorems.{spent}
 use Rattle.instruction.specs.Instructions.{instructionOf}
-use Rattle.machine.proofs.Laws.{turns}
+use Rattle.machine.proofs.Laws.{turns, other-tag, data-inside, registered, registered-length, set-written, none-written, data-turn}
+use borrow.Author.Needs.{needs}
 use Rattle.machine.proofs.run_on.Statement.{statement}
 use Rattle.machine.proofs.run_on.Tie as tie
 
@@ -16,12 +17,16 @@ Inv-loop page external ram₀ budget r₀ steps₀ ram r steps =
     (plain (instructionOf page external) (budget - steps) steps r ram ≡ plain (instructionOf page external) budget 0 r₀ ram₀)
     × (steps ≤ budget)
     × (length ram ≡ length ram₀)
+    × (length (r .regs) ≡ 8)
 
 abbrev μ-loop : tie.MeasureT-loop
 μ-loop page external ram₀ budget r₀ steps₀ ram r steps = budget - steps
 
 loop-holds : tie.Need-loop-holds Inv-loop μ-loop
-loop-holds c = (rw sub-zero, search needs, refl)
+loop-holds c = (rw sub-zero, search needs, refl, search needs)
+
+next-place-requires : tie.Need-next-place-requires Inv-loop μ-loop
+next-place-requires c κs = let h = data-inside _ _ _ (sym (c .before .before .before .before .instruction-at .ensures) ∙ c .before .before .i .given .1) in omega (arith, h, c .before .before .before .before .before .before .before .before .before .before .pre)
 
 add-steps : tie.Need-add-steps Inv-loop μ-loop
 add-steps c = omega arith
@@ -30,10 +35,37 @@ loop-less : tie.Need-loop-less Inv-loop μ-loop
 loop-less c = omega arith
 
 loop-again : tie.Need-loop-again Inv-loop μ-loop
-loop-again c = (
-  turns _ _ _ _ _ _ _ _ _ (c .before .before .before .before .before .before .before .loop-test .taken) (c .before .before .before .before .before .execute .ensures) (c .enum-told .given .1) (c .before .before .before .before .before .before .before .before .loop .inv .0),
+loop-again c =
+    let kept = c .before .before .before .before .before .before .before .before .before .before .before .before .before .loop .inv in
+    let r = c .before .before .before .before .before .before .before .before .before .before .before .before .before .loop .r in
+    let w = c .before .before .compute .result .register in
+    let written : c .match2 .r ≡ registered r w =
+    ⊎-elim
+    (λ x. x .5 ∙ set-written r w _ _ _ (x .1 .given .1) (kept .3) (x .4 .ensures))
+    (λ x. x .2 ∙ none-written r w (x .1 .given .1))
+    (c .match2 .came)
+    in (
+      data-turn _ _ _ _ _ _ _ _ _ _ _ (c .before .before .before .before .before .before .before .before .before .before .before .before .loop-test .taken) (sym (c .before .before .before .before .before .before .before .before .before .before .before .instruction-at .ensures) ∙ c .before .before .before .before .before .before .before .before .before .i .given .1) (c .before .before .compute .ensures) (c .before .before .before .before .before .before .next-place .ensures) written (kept .0),
+      omega arith,
+      search needs,
+      registered-length r _ w written (kept .3),
+    )
+
+execute-requires : tie.Need-execute-requires Inv-loop μ-loop
+execute-requires c κs = (c .before .before .before .before .before .before .before .before .pre, c .before .before .instruction-at .ensures, λ operation e. other-tag (rw e at (c .before .match .keys2)))
+
+add-steps-2 : tie.Need-add-steps-2 Inv-loop μ-loop
+add-steps-2 c = omega arith
+
+loop-less-2 : tie.Need-loop-less-2 Inv-loop μ-loop
+loop-less-2 c = omega arith
+
+loop-again-2 : tie.Need-loop-again-2 Inv-loop μ-loop
+loop-again-2 c = (
+  turns _ _ _ _ _ _ _ _ _ (c .before .before .before .before .before .before .before .before .before .loop-test .taken) (c .before .before .before .before .before .execute .ensures) (c .enum-told2 .given .1) (c .before .before .before .before .before .before .before .before .before .before .loop .inv .0),
   omega arith,
-  c .before .before .before .before .before .execute .kept .1 .1 .1 .0 ∙ c .before .before .before .before .before .before .before .before .loop .inv .2,
+  c .before .before .before .before .before .execute .kept .1 .1 .1 .1 .0 ∙ c .before .before .before .before .before .before .before .before .before .before .loop .inv .2,
+  search needs,
 )
 
 add-stopped : tie.Need-add-stopped Inv-loop μ-loop
@@ -43,7 +75,7 @@ same-length : tie.Need-same-length Inv-loop μ-loop
 same-length c = omega arith
 
 returns : tie.Need-returns Inv-loop μ-loop
-returns c = rw (c .stopped .ensures) (turns _ _ _ _ _ _ _ _ _ (c .before .before .before .before .before .before .before .before .before .loop-test .taken) (c .before .before .before .before .before .before .before .execute .ensures) (c .before .before .end .given .1) (c .before .before .before .before .before .before .before .before .before .before .loop .inv .0))
+returns c = rw (c .stopped .ensures) (turns _ _ _ _ _ _ _ _ _ (c .before .before .before .before .before .before .before .before .before .before .before .loop-test .taken) (c .before .before .before .before .before .before .before .execute .ensures) (c .before .before .end .given .1) (c .before .before .before .before .before .before .before .before .before .before .before .before .loop .inv .0))
 
 add-stopped-2 : tie.Need-add-stopped-2 Inv-loop μ-loop
 add-stopped-2 c = omega arith
@@ -52,19 +84,19 @@ same-length-2 : tie.Need-same-length-2 Inv-loop μ-loop
 same-length-2 c = omega arith
 
 returns-2 : tie.Need-returns-2 Inv-loop μ-loop
-returns-2 c = rw (c .stopped2 .ensures) (turns _ _ _ _ _ _ _ _ _ (c .before .before .before .before .before .before .before .before .before .loop-test .taken) (c .before .before .before .before .before .before .before .execute .ensures) (c .before .before .end2 .given .1) (c .before .before .before .before .before .before .before .before .before .before .loop .inv .0))
+returns-2 c = rw (c .stopped2 .ensures) (turns _ _ _ _ _ _ _ _ _ (c .before .before .before .before .before .before .before .before .before .before .before .loop-test .taken) (c .before .before .before .before .before .before .before .execute .ensures) (c .before .before .end2 .given .1) (c .before .before .before .before .before .before .before .before .before .before .before .before .loop .inv .0))
 
 same-length-3 : tie.Need-same-length-3 Inv-loop μ-loop
 same-length-3 c = omega arith
 
 returns-3 : tie.Need-returns-3 Inv-loop μ-loop
-returns-3 c = rw (c .stopped3 .ensures) (turns _ _ _ _ _ _ _ _ _ (c .before .before .before .before .before .before .before .before .before .loop-test .taken) (c .before .before .before .before .before .before .before .execute .ensures) (c .before .before .end3 .given .1) (c .before .before .before .before .before .before .before .before .before .before .loop .inv .0))
+returns-3 c = rw (c .stopped3 .ensures) (turns _ _ _ _ _ _ _ _ _ (c .before .before .before .before .before .before .before .before .before .before .before .loop-test .taken) (c .before .before .before .before .before .before .before .execute .ensures) (c .before .before .end3 .given .1) (c .before .before .before .before .before .before .before .before .before .before .before .before .loop .inv .0))
 
 same-length-4 : tie.Need-same-length-4 Inv-loop μ-loop
 same-length-4 c = omega arith
 
 returns-4 : tie.Need-returns-4 Inv-loop μ-loop
-returns-4 c = rw (c .stopped4 .ensures) (turns _ _ _ _ _ _ _ _ _ (c .before .before .before .before .before .before .before .before .loop-test .taken) (c .before .before .before .before .before .before .execute .ensures) (c .before .enum-told2 .given .1) (c .before .before .before .before .before .before .before .before .before .loop .inv .0))
+returns-4 c = rw (c .stopped4 .ensures) (turns _ _ _ _ _ _ _ _ _ (c .before .before .before .before .before .before .before .before .before .before .loop-test .taken) (c .before .before .before .before .before .before .execute .ensures) (c .before .enum-told3 .given .1) (c .before .before .before .before .before .before .before .before .before .before .before .loop .inv .0))
 
 same-length-5 : tie.Need-same-length-5 Inv-loop μ-loop
 same-length-5 c = omega arith
@@ -74,7 +106,9 @@ returns-5 c = rw (c .stopped5 .ensures) (sym (spent _ _ _ _ _ (omega arith)) ∙
 
 pub run-on-spec : {M : Type 1} → statement M
 run-on-spec = tie.close (tie.spec Inv-loop μ-loop loop-holds (λ c. search needs) (λ c. search needs)
-    add-steps loop-less loop-again (λ c. search needs) add-stopped (λ c. search needs) same-length
-    returns (λ c. search needs) add-stopped-2 (λ c. search needs) same-length-2 returns-2
-    (λ c. search needs) (λ c. search needs) same-length-3 returns-3 (λ c. search needs)
+    next-place-requires (λ c. search needs) (λ c. search needs) (λ c. search needs)
+    (λ c. search needs) add-steps loop-less loop-again execute-requires (λ c. search needs)
+    add-steps-2 loop-less-2 loop-again-2 (λ c. search needs) add-stopped (λ c. search needs)
+    same-length returns (λ c. search needs) add-stopped-2 (λ c. search needs) same-length-2
+    returns-2 (λ c. search needs) (λ c. search needs) same-length-3 returns-3 (λ c. search needs)
     (λ c. search needs) same-length-4 returns-4 (λ c. search needs) same-length-5 returns-5)

@@ -1,16 +1,12 @@
-use Rattle.page.proofs.Laws.{word-bytes}
+use Rattle.page.specs.Page.{wordAt}
 use borrow.Author.Needs.{needs}
 use Rattle.page.proofs.word.Statement.{statement}
 use Rattle.page.proofs.word.Tie as tie
 
 returns : tie.Need-returns
-returns c =
-    rw (c .byte4 .ensures, c .before .byte3 .ensures, c .before .before .byte2 .ensures, c .before .before .before .byte .ensures)
-    (word-bytes (c .before .before .before .before .before .args .page .now) (c .before .before .before .before .before .args .bundle))
+unfolding wordAt
+returns c = rw (c .before .before .halves-of .ensures)
 
 pub word-spec : {M : Type 1} → statement M
 word-spec = tie.close (tie.spec (λ c. search needs) (λ c. search needs) (λ c. search needs)
-    (λ c. search needs) (λ c. search needs) (λ c. search needs) (λ c. search needs)
-    (λ c. search needs) (λ c. search needs) (λ c. search needs) (λ c. search needs)
-    (λ c. search needs) (λ c. search needs) (λ c. search needs) (λ c. search needs)
-    (λ c. search needs) (λ c. search needs) (λ c. search needs) returns)
+    (λ c. search needs) (λ c. search needs) returns)

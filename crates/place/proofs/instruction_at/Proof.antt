@@ -6,7 +6,7 @@ use Rattle.place.proofs.instruction_at.Tie as tie
 
 returns : tie.Need-returns
 unfolding instructionAt
-returns c = rw (lt-ltb _ _ (c .before .before .before .if1 .taken), c .stands-in .ensures, c .before .halfword2 .ensures, c .before .before .halfword .ensures)
+returns c = rw (lt-ltb _ _ (c .before .before .if1 .taken), c .stands-in .ensures, c .before .halves-of .ensures)
 
 returns-2 : tie.Need-returns-2
 unfolding instructionAt
@@ -14,5 +14,4 @@ returns-2 c = rw (le-ltb _ _ (c .if1 .left))
 
 pub instruction-at-spec : {M : Type 1} → statement M
 instruction-at-spec = tie.close (tie.spec (λ c. search needs) (λ c. search needs)
-    (λ c. search needs) (λ c. search needs) (λ c. search needs) (λ c. search needs)
     (λ c. search needs) (λ c. search needs) returns returns-2)

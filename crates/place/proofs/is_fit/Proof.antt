@@ -1,6 +1,6 @@
 use mathlib.Core.Path.{ap}
-use Rattle.count.specs.declared.Counted.{Counted}
 use borrow.Author.Tests.{lt-ltb, le-ltb, eq-eqb, ne-eqb}
+use Rattle.count.specs.declared.Counted.{Counted}
 use Rattle.place.specs.Places.{fitPlace}
 use borrow.Author.Needs.{needs}
 use Rattle.place.proofs.is_fit.Statement.{statement}
@@ -16,9 +16,8 @@ returns-2 c = rw (← ap (λ (x : Counted). x .count) (c .before .before .before
 
 returns-3 : tie.Need-returns-3
 unfolding fitPlace
-returns-3 c = rw (← ap (λ (x : Counted). x .count) (c .before .before .before .before .before .before .count .ensures), lt-ltb _ _ (c .before .before .before .before .if1 .left), ne-eqb _ _ (c .before .before .before .if2 .left), c .second-fits .ensures, c .before .halfword2 .ensures, c .before .before .halfword .ensures)
+returns-3 c = rw (← ap (λ (x : Counted). x .count) (c .before .before .before .before .before .count .ensures), lt-ltb _ _ (c .before .before .before .if1 .left), ne-eqb _ _ (c .before .before .if2 .left), c .second-fits .ensures, c .before .halves-of .ensures)
 
 pub is-fit-spec : {M : Type 1} → statement M
 is-fit-spec = tie.close (tie.spec (λ c. search needs) (λ c. search needs) returns returns-2
-    (λ c. search needs) (λ c. search needs) (λ c. search needs) (λ c. search needs)
     (λ c. search needs) (λ c. search needs) returns-3)

@@ -1,30 +1,21 @@
-use mathlib.Core.Path.{sym, _∙_}
-use lib.Seq.{length-take-le}
+use mathlib.Core.Path.{_≡_}
+use lib.ListN.{length}
 use borrow.Author.Needs.{needs}
-use Rattle.transcript.specs.Transcript.{transcriptOf}
+use Rattle.stop.specs.Stops.{reasonOf}
+use Rattle.text.proofs.Laws.{whole}
+use Rattle.transcript.proofs.Lengths.{transcript-length}
 use Rattle.transcript.proofs.write.Statement.{statement}
 use Rattle.transcript.proofs.write.Tie as tie
 
 returns : tie.Need-returns
-unfolding transcriptOf
 returns c =
-    let tested = c .before .before .before .before in
-    rw (sym (tested .before .is-refusal .ensures) ∙ tested .if1 .taken) (c .before .before .stop-line .ensures)
-
-slice-aggregate-place : tie.Need-slice-aggregate-place
-slice-aggregate-place c =
-    let put = c .before .before .put-lines in
-    sym (length-take-le (put .result) (put .last .0) (put .ensures .0))
-
-returns-2 : tie.Need-returns-2
-unfolding transcriptOf
-returns-2 c =
-    let put = c .before .before .before .before .before .before in
-    let tested = put .before .before in
-    rw (sym (tested .before .is-refusal .ensures) ∙ tested .if1 .left)
-    (rw (put .put-lines .ensures .1) at (c .before .before .place .ensures))
+    let put = c .before .before .before .before .before .before .before in
+    let args = put .before .before .before .args in
+    let eight : length (args .r .regs) ≡ 8 = search needs in
+    let short = transcript-length (reasonOf (args .stop)) (args .steps) (args .r) eight in
+    let text = whole short (put .put-run .ensures) in
+    rw (c .before .before .before .before .first .ensures, text .1) at (c .before .before .place .ensures)
 
 pub write-spec : {M : Type 1} → statement M
-write-spec = tie.close (tie.spec (λ c. search needs) (λ c. search needs) (λ c. search needs) returns
-    (λ c. search needs) (λ c. search needs) (λ c. search needs) slice-aggregate-place
-    (λ c. search needs) (λ c. search needs) returns-2)
+write-spec = tie.close (tie.spec (λ c. search needs) (λ c. search needs) (λ c. search needs)
+    (λ c. search needs) (λ c. search needs) (λ c. search needs) returns)

@@ -19,8 +19,10 @@ text-is page a ram e = ap (λ (x : Result). transcriptOf (x .stop) (x .steps) (x
 
 returns : tie.Need-returns
 returns c =
-    rw (text-is (c .before .before .before .before .before .before .before .before .before .before .before .before .args .page .now) (c .before .before .before .before .before .before .run .result) _ (rw (c .before .before .before .before .before .before .before .fresh-record .ensures) at (c .before .before .before .before .before .before .run .ensures)))
-    (c .before .before .write .ensures)
+    let called = c .before .before .before .before .before .before in
+    let page = called .before .before .before .before .before .before .args .page .now in
+    let run = rw (called .before .fresh-record .ensures) at (called .run .ensures) in
+    rw (text-is page (called .run .result) _ run) (c .before .before .write .ensures)
 
 pub try-page-spec : {M : Type 1} → statement M
 try-page-spec = tie.close (tie.spec (λ c. search needs) (λ c. search needs) (λ c. search needs)
