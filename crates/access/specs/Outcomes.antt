@@ -37,12 +37,12 @@ unfoldable pub didOf : Outcome → Did
 didOf (does w ram) = did.Writes w
 didOf (fails fault) = did.Fails fault
 
-unfoldable pub ramOf : List ℕ → Outcome → List ℕ
-ramOf ram (does w after) = after
-ramOf ram (fails fault) = ram
+unfoldable pub outcomeRam : List ℕ → Outcome → List ℕ
+outcomeRam ram (does w after) = after
+outcomeRam ram (fails fault) = ram
 
 abbrev pub Does : List ℕ → Outcome → Did → List ℕ → Type 0
-Does ram o d after = (d ≡ didOf o) × (after ≡ ramOf ram o)
+Does ram o d after = (d ≡ didOf o) × (after ≡ outcomeRam ram o)
 
 -- whatever RAM is
 abbrev pub DoesAny : (List ℕ → Outcome) → Did → Type 0

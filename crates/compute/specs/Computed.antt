@@ -21,8 +21,8 @@ abbrev pub to : ℕ → Valued → Computed
 to d v = record { register = Register d (v .value); flags = v .flags }
 
 -- the flags are set, and the value goes nowhere
-abbrev pub flagsOf : Valued → Computed
-flagsOf v = record { register = NoRegister; flags = v .flags }
+abbrev pub flagsOnly : Valued → Computed
+flagsOnly v = record { register = NoRegister; flags = v .flags }
 
 -- a value goes to register d, and the flags stay
 abbrev pub moved : ℕ → ℕ → Flags → Computed
@@ -50,7 +50,7 @@ computed (SubReg m n d) regs sp f = to d (sub (registerIn regs n) (registerIn re
 computed (AddImm3 imm3 n d) regs sp f = to d (add (registerIn regs n) imm3)
 computed (SubImm3 imm3 n d) regs sp f = to d (sub (registerIn regs n) imm3)
 computed (MovImm d imm8) regs sp f = to d (mov imm8 f)
-computed (CmpImm n imm8) regs sp f = flagsOf (sub (registerIn regs n) imm8)
+computed (CmpImm n imm8) regs sp f = flagsOnly (sub (registerIn regs n) imm8)
 computed (AddImm d imm8) regs sp f = to d (add (registerIn regs d) imm8)
 computed (SubImm d imm8) regs sp f = to d (sub (registerIn regs d) imm8)
 computed (And m d) regs sp f = to d (mov (bitAnd (registerIn regs d) (registerIn regs m)) f)
@@ -61,10 +61,10 @@ computed (AsrReg m d) regs sp f = to d (asr (registerIn regs d) (lowByte (regist
 computed (Adc m d) regs sp f = to d (adc (registerIn regs d) (registerIn regs m) f)
 computed (Sbc m d) regs sp f = to d (sbc (registerIn regs d) (registerIn regs m) f)
 computed (RorReg m d) regs sp f = to d (ror (registerIn regs d) (lowByte (registerIn regs m)) f)
-computed (Tst m n) regs sp f = flagsOf (mov (bitAnd (registerIn regs n) (registerIn regs m)) f)
+computed (Tst m n) regs sp f = flagsOnly (mov (bitAnd (registerIn regs n) (registerIn regs m)) f)
 computed (Rsb n d) regs sp f = to d (rsb (registerIn regs n))
-computed (CmpReg m n) regs sp f = flagsOf (sub (registerIn regs n) (registerIn regs m))
-computed (Cmn m n) regs sp f = flagsOf (add (registerIn regs n) (registerIn regs m))
+computed (CmpReg m n) regs sp f = flagsOnly (sub (registerIn regs n) (registerIn regs m))
+computed (Cmn m n) regs sp f = flagsOnly (add (registerIn regs n) (registerIn regs m))
 computed (Orr m d) regs sp f = to d (mov (bitOr (registerIn regs d) (registerIn regs m)) f)
 computed (Mul n d) regs sp f = to d (mov (product (registerIn regs n) (registerIn regs d)) f)
 computed (Bic m d) regs sp f = to d (mov (bitAnd (registerIn regs d) (notWord (registerIn regs m))) f)

@@ -27,8 +27,8 @@ fn to(d: u8, v: Valued) -> Computed
 }
 
 // The flags are set, and the value goes nowhere.
-fn flags_of(v: Valued) -> Computed
-    ensures { λ c. ⌜ c ≡ definitions.flagsOf v ⌝ }
+fn flags_only(v: Valued) -> Computed
+    ensures { λ c. ⌜ c ≡ definitions.flagsOnly v ⌝ }
 {
     let flags = v.flags;
     Computed {
@@ -89,7 +89,7 @@ pub fn compute(operation: Operation, regs: &[u32], sp: u32, f: Flags) -> Compute
         Operation::AddImm3(imm3, n, d) => to(d, alu::add(at(regs, n), imm3 as u32)),
         Operation::SubImm3(imm3, n, d) => to(d, alu::sub(at(regs, n), imm3 as u32)),
         Operation::MovImm(d, imm8) => to(d, alu::mov(imm8 as u32, f)),
-        Operation::CmpImm(n, imm8) => flags_of(alu::sub(at(regs, n), imm8 as u32)),
+        Operation::CmpImm(n, imm8) => flags_only(alu::sub(at(regs, n), imm8 as u32)),
         Operation::AddImm(d, imm8) => to(d, alu::add(at(regs, d), imm8 as u32)),
         Operation::SubImm(d, imm8) => to(d, alu::sub(at(regs, d), imm8 as u32)),
         Operation::And(m, d) => to(d, alu::mov(arm::and(at(regs, d), at(regs, m)), f)),
@@ -100,10 +100,10 @@ pub fn compute(operation: Operation, regs: &[u32], sp: u32, f: Flags) -> Compute
         Operation::Adc(m, d) => to(d, alu::adc(at(regs, d), at(regs, m), f)),
         Operation::Sbc(m, d) => to(d, alu::sbc(at(regs, d), at(regs, m), f)),
         Operation::RorReg(m, d) => to(d, alu::ror(at(regs, d), low_byte(at(regs, m)), f)),
-        Operation::Tst(m, n) => flags_of(alu::mov(arm::and(at(regs, n), at(regs, m)), f)),
+        Operation::Tst(m, n) => flags_only(alu::mov(arm::and(at(regs, n), at(regs, m)), f)),
         Operation::Rsb(n, d) => to(d, alu::rsb(at(regs, n))),
-        Operation::CmpReg(m, n) => flags_of(alu::sub(at(regs, n), at(regs, m))),
-        Operation::Cmn(m, n) => flags_of(alu::add(at(regs, n), at(regs, m))),
+        Operation::CmpReg(m, n) => flags_only(alu::sub(at(regs, n), at(regs, m))),
+        Operation::Cmn(m, n) => flags_only(alu::add(at(regs, n), at(regs, m))),
         Operation::Orr(m, d) => to(d, alu::mov(arm::orr(at(regs, d), at(regs, m)), f)),
         Operation::Mul(n, d) => to(d, alu::mov(arm::mul(at(regs, n), at(regs, d)), f)),
         Operation::Bic(m, d) => to(d, alu::mov(arm::bic(at(regs, d), at(regs, m)), f)),

@@ -7,14 +7,14 @@ use lib.Dec.{ltb}
 use Rattle.memory.specs.declared.Fault.the-variants.{LowStack}
 use Rattle.state.specs.Writes.{writesNothing, writingSp}
 use Rattle.state.specs.declared.Record.{Record}
-use Rattle.access.specs.Outcomes.{Outcome, does, fails, didOf, ramOf}
+use Rattle.access.specs.Outcomes.{Outcome, does, fails, didOf, outcomeRam}
 use Rattle.effects.specs.ServiceEffects.{noneDid, leavesNone, lowerSp}
 
-pub lower-ram : (r : Record) (ram : List ℕ) (words : ℕ) → ram ≡ ramOf ram (lowerSp r ram words)
-unfolding lowerSp ramOf
+pub lower-ram : (r : Record) (ram : List ℕ) (words : ℕ) → ram ≡ outcomeRam ram (lowerSp r ram words)
+unfolding lowerSp outcomeRam
 lower-ram r ram words = by (ltb (r .sp) (0x10000 + 4 * words))
   where
-    by : (t : Bool) → ram ≡ ramOf ram (cond t (fails LowStack) (does (writingSp (writesNothing r) (r .sp - 4 * words)) ram))
+    by : (t : Bool) → ram ≡ outcomeRam ram (cond t (fails LowStack) (does (writingSp (writesNothing r) (r .sp - 4 * words)) ram))
     by true = refl
     by false = refl
 
@@ -23,7 +23,7 @@ unfolding noneDid leavesNone didOf
 none-did (does w ram) = refl
 none-did (fails f) = refl
 
-pub none-ram : (ram : List ℕ) (o : Outcome) → ramOf ram o ≡ ramOf ram (leavesNone o)
-unfolding leavesNone ramOf
+pub none-ram : (ram : List ℕ) (o : Outcome) → outcomeRam ram o ≡ outcomeRam ram (leavesNone o)
+unfolding leavesNone outcomeRam
 none-ram ram (does w after) = refl
 none-ram ram (fails f) = refl

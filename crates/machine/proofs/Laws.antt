@@ -37,7 +37,7 @@ use Rattle.plain.specs.PlainMachine.{Effect, goesOn, exits, faults, unlisted, R
 use Rattle.plain.proofs.Theorems.{turn}
 use Rattle.place.specs.Places.{isEven, standsIn, instructionAt, following}
 use Rattle.instruction.specs.Instructions.{endAt, branchTo, branchIf, exitOf, servedBy, served, writesOf, effectOf, instructionOf}
-use Rattle.machine.specs.Executed.{exitEnd, executedOf, ramOf, Executes, endedBy}
+use Rattle.machine.specs.Executed.{exitEnd, executedOf, effectRam, Executes, endedBy}
 use Rattle.machine.specs.declared.End.{End}
 use Rattle.machine.specs.declared.End.the-variants.{GoesOn, Exits, ExitsBy, Fails, Unlisted}
 use Rattle.machine.specs.declared.Executed.{Executed}
@@ -49,29 +49,29 @@ abbrev pub Ends : End → (Record → List ℕ → Effect) → Type 0
 Ends end effect = (r s : Record) (ram after : List ℕ) → Executes r ram (effect s after) (record { end = end; after = s }) after
 
 pub goes-on : Ends GoesOn goesOn
-unfolding executedOf ramOf
+unfolding executedOf effectRam
 goes-on r s ram after = (refl, refl)
 
 pub exits-so : (exit : Exit) → Ends (exitEnd exit) (exits exit)
-unfolding executedOf ramOf
+unfolding executedOf effectRam
 exits-so exit r s ram after = (refl, refl)
 
 -- done as an outcome says, and it ends so at a place
 pub ends : (end : End) (effect : Record → List ℕ → Effect) → Ends end effect
     → (r : Record) (ram after : List ℕ) (place : ℕ) (o : Outcome) (d : Did)
     → Does ram o d after → Executes r ram (endAt effect r place o) (endedBy end r place d) after
-unfolding endedBy executedOf ramOf endAt didOf outcomes.ramOf
+unfolding endedBy executedOf effectRam endAt didOf outcomes.outcomeRam
 ends end effect e r ram after place (does w m) d h = rw (h .0, h .1) (e r _ ram m)
 ends end effect e r ram after place (fails f) d h = rw (h .0, h .1) (refl, refl)
 
 -- a branch changes no RAM
-pub branch-ram : (r : Record) (ram : List ℕ) (t : Target) → ram ≡ ramOf ram (branchTo r ram t)
-unfolding branchTo ramOf
+pub branch-ram : (r : Record) (ram : List ℕ) (t : Target) → ram ≡ effectRam ram (branchTo r ram t)
+unfolding branchTo effectRam
 branch-ram r ram target.Bad = refl
 branch-ram r ram (target.At b) = refl
 
-pub branch-if-ram : (taken : Bool) (r : Record) (ram : List ℕ) (next : ℕ) (t : Target) → ram ≡ ramOf ram (branchIf taken r ram next t)
-unfolding branchIf ramOf
+pub branch-if-ram : (taken : Bool) (r : Record) (ram : List ℕ) (next : ℕ) (t : Target) → ram ≡ effectRam ram (branchIf taken r ram next t)
+unfolding branchIf effectRam
 branch-if-ram true r ram next t = branch-ram r ram t
 branch-if-ram false r ram next t = refl
 
@@ -107,8 +107,8 @@ resumed steps next (Fails f) r ram = record { stop = fault (faultNumber f); step
 resumed steps next Unlisted r ram = record { stop = stops.unlisted; steps = steps; rec = r; ram = ram }
 
 onward-resumed : (steps : ℕ) (r : Record) (ram : List ℕ) (next : Record → List ℕ → Result) (e : Effect)
-    → resumed steps next (executedOf r e .end) (executedOf r e .after) (ramOf ram e) ≡ onward steps r ram next e
-unfolding executedOf ramOf exitEnd
+    → resumed steps next (executedOf r e .end) (executedOf r e .after) (effectRam ram e) ≡ onward steps r ram next e
+unfolding executedOf effectRam exitEnd
 onward-resumed steps r ram next (goesOn s after) = refl
 onward-resumed steps r ram next (exits (direct n) s after) = refl
 onward-resumed steps r ram next (exits (byLiteral n literal) s after) = refl

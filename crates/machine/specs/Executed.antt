@@ -25,15 +25,15 @@ executedOf r (exits exit s after) = record { end = exitEnd exit; after = s }
 executedOf r (faults fault) = record { end = Fails fault; after = r }
 executedOf r unlisted = record { end = Unlisted; after = r }
 
-unfoldable pub ramOf : List ℕ → Effect → List ℕ
-ramOf ram (goesOn r after) = after
-ramOf ram (exits exit r after) = after
-ramOf ram (faults fault) = ram
-ramOf ram unlisted = ram
+unfoldable pub effectRam : List ℕ → Effect → List ℕ
+effectRam ram (goesOn r after) = after
+effectRam ram (exits exit r after) = after
+effectRam ram (faults fault) = ram
+effectRam ram unlisted = ram
 
 -- the instruction that has the effect e
 abbrev pub Executes : Record → List ℕ → Effect → Executed → List ℕ → Type 0
-Executes r ram e x after = (x ≡ executedOf r e) × (after ≡ ramOf ram e)
+Executes r ram e x after = (x ≡ executedOf r e) × (after ≡ effectRam ram e)
 
 -- whatever RAM is
 abbrev pub ExecutesAny : Record → (List ℕ → Effect) → Executed → Type 0

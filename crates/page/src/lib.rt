@@ -20,7 +20,7 @@ pub fn fits(page: &[u8]) -> bool
 }
 
 // Lowest byte first.
-fn joined(low: u8, high: u8) -> u16
+fn halfword(low: u8, high: u8) -> u16
     ensures { λ h. ⌜ h ≡ low + 256 * high ⌝ }
 {
     low as u16 + 256 * (high as u16)
@@ -33,13 +33,13 @@ pub fn halves_of(page: &[u8], k: u32) -> Halves
     let i = 4 * (k as usize);
     if (k as usize) < page.len() / 4 {
         return Halves {
-            first: joined(page[i], page[i + 1]),
-            second: joined(page[i + 2], page[i + 3]),
+            first: halfword(page[i], page[i + 1]),
+            second: halfword(page[i + 2], page[i + 3]),
         };
     }
     Halves {
-        first: joined(endian::byte(page, i), endian::byte(page, i + 1)),
-        second: joined(endian::byte(page, i + 2), endian::byte(page, i + 3)),
+        first: halfword(endian::byte(page, i), endian::byte(page, i + 1)),
+        second: halfword(endian::byte(page, i + 2), endian::byte(page, i + 3)),
     }
 }
 

@@ -27,7 +27,7 @@ returns-8 : tie.Need-returns-8
 returns-8 c = rw (c .before .before .before .operation8 .given .1, c .to8 .ensures, c .before .mov .ensures)
 
 returns-9 : tie.Need-returns-9
-returns-9 c = rw (c .before .before .before .before .operation9 .given .1, c .flags-of .ensures, c .before .sub3 .ensures, c .before .before .at10 .ensures)
+returns-9 c = rw (c .before .before .before .before .operation9 .given .1, c .flags-only .ensures, c .before .sub3 .ensures, c .before .before .at10 .ensures)
 
 returns-10 : tie.Need-returns-10
 returns-10 c = rw (c .before .before .before .before .operation10 .given .1, c .to9 .ensures, c .before .add3 .ensures, c .before .before .at11 .ensures)
@@ -60,16 +60,16 @@ returns-19 : tie.Need-returns-19
 returns-19 c = rw (c .before .before .before .before .before .before .operation19 .given .1, c .to18 .ensures, c .before .ror .ensures, c .before .before .low-byte4 .ensures, c .before .before .before .at28 .ensures, c .before .before .before .before .at27 .ensures)
 
 returns-20 : tie.Need-returns-20
-returns-20 c = rw (c .before .before .before .before .before .before .operation20 .given .1, c .flags-of2 .ensures, c .before .mov4 .ensures, c .before .before .and2 .ensures, c .before .before .before .at30 .ensures, c .before .before .before .before .at29 .ensures)
+returns-20 c = rw (c .before .before .before .before .before .before .operation20 .given .1, c .flags-only2 .ensures, c .before .mov4 .ensures, c .before .before .and2 .ensures, c .before .before .before .at30 .ensures, c .before .before .before .before .at29 .ensures)
 
 returns-21 : tie.Need-returns-21
 returns-21 c = rw (c .before .before .before .before .operation21 .given .1, c .to19 .ensures, c .before .rsb .ensures, c .before .before .at31 .ensures)
 
 returns-22 : tie.Need-returns-22
-returns-22 c = rw (c .before .before .before .before .before .operation22 .given .1, c .flags-of3 .ensures, c .before .sub5 .ensures, c .before .before .at33 .ensures, c .before .before .before .at32 .ensures)
+returns-22 c = rw (c .before .before .before .before .before .operation22 .given .1, c .flags-only3 .ensures, c .before .sub5 .ensures, c .before .before .at33 .ensures, c .before .before .before .at32 .ensures)
 
 returns-23 : tie.Need-returns-23
-returns-23 c = rw (c .before .before .before .before .before .operation23 .given .1, c .flags-of4 .ensures, c .before .add4 .ensures, c .before .before .at35 .ensures, c .before .before .before .at34 .ensures)
+returns-23 c = rw (c .before .before .before .before .before .operation23 .given .1, c .flags-only4 .ensures, c .before .add4 .ensures, c .before .before .at35 .ensures, c .before .before .before .at34 .ensures)
 
 returns-24 : tie.Need-returns-24
 returns-24 c = rw (c .before .before .before .before .before .before .operation24 .given .1, c .to20 .ensures, c .before .mov5 .ensures, c .before .before .orr .ensures, c .before .before .before .at37 .ensures, c .before .before .before .before .at36 .ensures)

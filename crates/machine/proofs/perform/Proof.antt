@@ -1,6 +1,6 @@
 use mathlib.Core.Path.{refl}
 use Rattle.instruction.specs.Instructions.{effectOf}
-use Rattle.machine.specs.Executed.{ramOf}
+use Rattle.machine.specs.Executed.{effectRam}
 use Rattle.machine.proofs.Laws.{goes-on, ends, branch-ram, branch-if-ram}
 use borrow.Author.Needs.{needs}
 use Rattle.machine.proofs.perform.Statement.{statement}
@@ -35,7 +35,7 @@ unfolding effectOf
 returns-7 c = rw (c .before .before .before .before .before .i6 .given .1) (c .before .before .serve .ensures)
 
 returns-8 : tie.Need-returns-8
-unfolding effectOf ramOf
+unfolding effectOf effectRam
 returns-8 c = rw (c .before .enum-told2 .given .1) (c .unlisted2 .ensures, refl)
 
 pub perform-spec : {M : Type 1} → statement M

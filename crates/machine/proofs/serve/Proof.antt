@@ -1,6 +1,6 @@
 use mathlib.Core.Path.{refl}
 use Rattle.machine.proofs.Laws.{goes-on, exits-so, ends, serving}
-use Rattle.machine.specs.Executed.{ramOf}
+use Rattle.machine.specs.Executed.{effectRam}
 use Rattle.instruction.specs.Instructions.{servedBy}
 use borrow.Author.Needs.{needs}
 use Rattle.machine.proofs.serve.Statement.{statement}
@@ -38,7 +38,7 @@ returns-3 c = rw (
     (ends _ _ (exits-so _) _ _ _ _ _ _ (c .before .before .before .before .serve3 .ensures))
 
 returns-4 : tie.Need-returns-4
-unfolding servedBy ramOf
+unfolding servedBy effectRam
 returns-4 c = rw (serving _ _ _ _ _ _ _ (c .before .before .before .before .before .service-of .ensures) (c .before .before .before .ending-of .ensures), c .before .enum-told4 .given .1) (c .unlisted .ensures, refl)
 
 pub serve-spec : {M : Type 1} → statement M
