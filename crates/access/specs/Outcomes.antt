@@ -9,10 +9,10 @@ use Rattle.memory.specs.declared.Loaded.the-variants as loaded
 use Rattle.memory.specs.declared.Stored.{Stored}
 use Rattle.memory.specs.declared.Stored.the-variants.{Done}
 use Rattle.memory.specs.declared.Stored.the-variants as stored
-use Rattle.state.specs.Writes.{keeping, writesNothing}
+use Rattle.writing.specs.Writes.{keeping, writesNothing}
 use Rattle.state.specs.declared.Record.{Record}
-use Rattle.state.specs.declared.Write.the-variants.{Register}
-use Rattle.state.specs.declared.Writes.{Writes}
+use Rattle.writing.specs.declared.Write.the-variants.{Register}
+use Rattle.writing.specs.declared.Writes.{Writes}
 use Rattle.access.specs.declared.Did.{Did}
 use Rattle.access.specs.declared.Did.the-variants as did
 

@@ -8,8 +8,8 @@ use memory::Fault;
 use memory::Loaded;
 use memory::Stored;
 use state::Record;
-use state::Write;
-use state::Writes;
+use writing::Write;
+use writing::Writes;
 
 // What an instruction comes to: what it writes, or the fault that it meets.
 pub enum Did {
@@ -45,7 +45,7 @@ fn load_to(r: Record, t: u8, l: Loaded) -> Did
 {
     let flags = r.flags;
     match l {
-        Loaded::Value(x) => Did::Writes(state::keeping(r, Write::Register(t, x), flags)),
+        Loaded::Value(x) => Did::Writes(writing::keeping(r, Write::Register(t, x), flags)),
         Loaded::Fails(fault) => Did::Fails(fault),
     }
 }
@@ -55,7 +55,7 @@ fn stored(r: Record, s: Stored) -> Did
     ensures { λ d. ⌜ DoesAny (λ m. storeWith r s m) d ⌝ }
 {
     match s {
-        Stored::Done => Did::Writes(state::writes_nothing(r)),
+        Stored::Done => Did::Writes(writing::writes_nothing(r)),
         Stored::Fails(fault) => Did::Fails(fault),
     }
 }

@@ -9,7 +9,7 @@ use Rattle.branch.specs.Branches.{bundleAt}
 use Rattle.bundle.specs.Flow.{flowOf}
 use Rattle.bundle.specs.Successors.{successorsOf}
 use Rattle.state.specs.Record.{withRegister, withFlags, withPlace}
-use Rattle.state.specs.Writes.{applied}
+use Rattle.writing.specs.Writes.{applied}
 use Rattle.place.specs.Places.{standsIn, instructionAt, following}
 use Rattle.instruction.specs.Instructions.{endAt, branchTo, branchIf, effectOf, instructionOf}
 use Rattle.claims.specs.Examples.{Starred}

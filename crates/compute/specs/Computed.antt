@@ -13,7 +13,7 @@ use Rattle.arm.specs.declared.Flags.{Flags}
 use Rattle.alu.specs.Operations.{mov, lsl, lsr, asr, ror, add, sub, adc, sbc, rsb}
 use Rattle.alu.specs.declared.Valued.{Valued}
 use Rattle.state.specs.Record.{registerIn}
-use Rattle.state.specs.declared.Write.the-variants.{NoRegister, Register}
+use Rattle.writing.specs.declared.Write.the-variants.{NoRegister, Register}
 use Rattle.compute.specs.declared.Computed.{Computed}
 
 -- the value goes to register d, and the flags are set

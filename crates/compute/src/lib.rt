@@ -6,8 +6,8 @@ use alu::Valued;
 use arm::Flags;
 use arm::immediate_amount;
 use isa::Operation;
-use state::Write;
 use std::num::wrapping_add_u32;
+use writing::Write;
 
 // One register at most, and the flags.
 pub struct Computed {

@@ -5,7 +5,7 @@ use mathlib.Core.List.{List}
 use mathlib.Core.Path.{_≡_, refl}
 use lib.Dec.{ltb}
 use Rattle.memory.specs.declared.Fault.the-variants.{LowStack}
-use Rattle.state.specs.Writes.{writesNothing, writingSp}
+use Rattle.writing.specs.Writes.{writesNothing, writingSp}
 use Rattle.state.specs.declared.Record.{Record}
 use Rattle.access.specs.Outcomes.{Outcome, does, fails, didOf, outcomeRam}
 use Rattle.effects.specs.ServiceEffects.{noneDid, leavesNone, lowerSp}

@@ -7,7 +7,7 @@ use Rattle.service.specs.declared.Service.{Service}
 use Rattle.service.specs.declared.Service.the-variants.{Return, Call, TailCall, Syscall, TailSyscall, LongBranch, Preload, SetBase, StoreAtSp, LoadAtSp, LowerSp, DirectSyscall, Validate, Breakpoint, CallRegister, TailCallRegister, Bad}
 use Rattle.memory.specs.declared.Fault.the-variants.{LowStack}
 use Rattle.state.specs.Record.{register}
-use Rattle.state.specs.Writes.{writesNothing, writingSp, writingBase}
+use Rattle.writing.specs.Writes.{writesNothing, writingSp, writingBase}
 use Rattle.state.specs.Validation.{validated}
 use Rattle.state.specs.declared.Base.the-variants.{Nothing}
 use Rattle.state.specs.declared.Record.{Record}

@@ -2,7 +2,7 @@
 ghost use mathlib.Core.Path.{_≡_};
 ghost use lib.ListN.{length};
 ghost use Rattle.access.specs.Outcomes.{does, Does, DoesAny};
-ghost use Rattle.state.specs.Writes.{writesNothing};
+ghost use Rattle.writing.specs.Writes.{writesNothing};
 ghost use Rattle.effects.specs.ServiceEffects.{noneDid, leavesNone, lowerSp, setBase, serviceDoes};
 use access::Did;
 use memory::Fault;
@@ -15,7 +15,7 @@ fn leave_none(d: Did) -> Did
     ensures { λ e. ⌜ e ≡ noneDid d ⌝ }
 {
     match d {
-        Did::Writes(w) => Did::Writes(state::writing_base(w, Base::Nothing)),
+        Did::Writes(w) => Did::Writes(writing::writing_base(w, Base::Nothing)),
         Did::Fails(fault) => Did::Fails(fault),
     }
 }
@@ -28,7 +28,7 @@ fn lower_sp(r: Record, words: u32) -> Did
     if sp < 0x10000 + bytes {
         Did::Fails(Fault::LowStack)
     } else {
-        Did::Writes(state::writing_sp(state::writes_nothing(r), (sp - bytes) as u32))
+        Did::Writes(writing::writing_sp(writing::writes_nothing(r), (sp - bytes) as u32))
     }
 }
 
@@ -36,13 +36,16 @@ fn lower_sp(r: Record, words: u32) -> Did
 fn base_rule(r: Record) -> Did
     ensures { λ d. ⌜ DoesAny (λ m. leavesNone (does (writesNothing r) m)) d ⌝ }
 {
-    Did::Writes(state::writing_base(state::writes_nothing(r), Base::Nothing))
+    Did::Writes(writing::writing_base(writing::writes_nothing(r), Base::Nothing))
 }
 
 fn set_base_to(r: Record, v: u32, external: &[u8]) -> Did
     ensures { λ d. ⌜ DoesAny (λ m. setBase r m v (length (now (external .entry)))) d ⌝ }
 {
-    Did::Writes(state::writing_base(state::writes_nothing(r), state::base_of(v, external.len())))
+    Did::Writes(writing::writing_base(
+        writing::writes_nothing(r),
+        state::base_of(v, external.len()),
+    ))
 }
 
 pub fn serve(external: &[u8], s: Service, r: Record, ram: &mut [u8]) -> Did

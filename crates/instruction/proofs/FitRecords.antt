@@ -25,12 +25,12 @@ use Rattle.memory.specs.declared.Stored.{Stored}
 use Rattle.memory.specs.declared.Stored.the-variants.{Done}
 use Rattle.memory.specs.declared.Stored.the-variants as stored
 use Rattle.state.specs.Record.{register, spFits, baseFits}
-use Rattle.state.specs.Writes.{writesNothing, writingSp, writingBase}
+use Rattle.writing.specs.Writes.{writesNothing, writingSp, writingBase}
 use Rattle.state.specs.Validation.{validated}
 use Rattle.state.specs.declared.Base.{Base}
 use Rattle.state.specs.declared.Base.the-variants.{Nothing, Ram, External}
 use Rattle.state.specs.declared.Record.{Record}
-use Rattle.state.specs.declared.Writes.{Writes}
+use Rattle.writing.specs.declared.Writes.{Writes}
 use Rattle.access.specs.Outcomes.{Outcome, does, fails, loadTo, storeWith}
 use Rattle.access.specs.LoadsAndStores.{stackLoaded, stackStored, afterStackStore, storeAt, literalLoaded, storeBase, loadedBase, accessed}
 use Rattle.effects.specs.ServiceEffects.{leavesNone, lowerSp, setBase, serviceDoes}

@@ -29,9 +29,9 @@ use Rattle.memory.specs.Faults.{faultNumber}
 use Rattle.memory.specs.declared.Fault.{Fault}
 use Rattle.memory.specs.declared.Fault.the-variants.{NoBase, PastRam, OffExternalPage, PastStack, LowStack, PastPage}
 use Rattle.state.specs.Record.{register, withPlace, fitRecord}
-use Rattle.state.specs.Writes.{writesNothing, applied}
+use Rattle.writing.specs.Writes.{writesNothing, applied}
 use Rattle.state.specs.declared.Record.{Record}
-use Rattle.state.specs.declared.Writes.{Writes}
+use Rattle.writing.specs.declared.Writes.{Writes}
 use Rattle.access.specs.Outcomes.{Outcome, does, fails}
 use Rattle.access.specs.LoadsAndStores.{accessed}
 use Rattle.effects.specs.ServiceEffects.{serviceDoes}

@@ -21,9 +21,9 @@ use Rattle.service.specs.Services.{serviceOf, endingOf}
 use Rattle.service.specs.declared.Ending.{Ending}
 use Rattle.service.specs.declared.Ending.the-variants as ending
 use Rattle.state.specs.Record.{register, withPlace}
-use Rattle.state.specs.Writes.{keeping, applied}
+use Rattle.writing.specs.Writes.{keeping, applied}
 use Rattle.state.specs.declared.Record.{Record}
-use Rattle.state.specs.declared.Writes.{Writes}
+use Rattle.writing.specs.declared.Writes.{Writes}
 use Rattle.compute.specs.Computed.{computed}
 use Rattle.access.specs.Outcomes.{Outcome, does, fails}
 use Rattle.access.specs.LoadsAndStores.{accessed}

@@ -20,10 +20,10 @@ use Rattle.service.specs.Services.{serviceOf, endingOf}
 use Rattle.service.specs.declared.Ending.{Ending}
 use Rattle.service.specs.declared.Service.{Service}
 use Rattle.memory.specs.Faults.{faultNumber}
-use Rattle.state.specs.Writes.{writtenTo, applied}
+use Rattle.writing.specs.Writes.{writtenTo, applied}
 use Rattle.state.specs.declared.Record.{Record}
-use Rattle.state.specs.declared.Write.{Write}
-use Rattle.state.specs.declared.Write.the-variants.{NoRegister, Register}
+use Rattle.writing.specs.declared.Write.{Write}
+use Rattle.writing.specs.declared.Write.the-variants.{NoRegister, Register}
 use Rattle.state.proofs.Registers.{set-eighth}
 use Rattle.compute.specs.Computed.{computed}
 use Rattle.compute.specs.declared.Computed.{Computed}

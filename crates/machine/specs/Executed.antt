@@ -5,7 +5,7 @@ use mathlib.Core.Path.{_≡_}
 use Rattle.isa.specs.declared.Operation.{Operation}
 use Rattle.isa.specs.declared.Instruction.{Instruction}
 use Rattle.isa.specs.declared.Instruction.the-variants.{Data}
-use Rattle.state.specs.Writes.{applied}
+use Rattle.writing.specs.Writes.{applied}
 use Rattle.state.specs.declared.Record.{Record}
 use Rattle.access.specs.declared.Did.{Did}
 use Rattle.access.specs.declared.Did.the-variants as did

@@ -16,8 +16,8 @@ use memory::Fault;
 use refusal::Verdict;
 use service::Ending;
 use state::Record;
-use state::Write;
 use stop::Stop;
+use writing::Write;
 
 // How an instruction ended.
 enum End {
@@ -52,7 +52,7 @@ fn ended(r: Record, d: Did, end: End, place: u16) -> Executed
     match d {
         Did::Writes(w) => Executed {
             end,
-            after: state::applied(r, w, place),
+            after: writing::applied(r, w, place),
         },
         Did::Fails(fault) => Executed {
             end: End::Fails(fault),

@@ -4,7 +4,6 @@ ghost use mathlib.Core.Bool.{cond};
 ghost use lib.Dec.{ltb};
 ghost use lib.ListN.{length, set};
 ghost use Rattle.state.specs.Record.{registerIn, register, withRegister, withSp, withFlags, withPlace, withBase, freshRecord, spFits, baseFits, fitRecord};
-ghost use Rattle.state.specs.Writes as writes;
 ghost use Rattle.state.specs.Validation.{externalFits, validated, validateBase};
 use arm::Flags;
 use refusal::Refusal;
@@ -24,20 +23,6 @@ pub struct Record {
     pub flags: Flags,
     // the build paper's place: the number of a halfword, from 0
     pub place: u16,
-    pub base: Base,
-}
-
-// The register that an instruction writes: none, or one with its value.
-pub enum Write {
-    NoRegister,
-    Register(u8, u32),
-}
-
-// What an instruction writes, its place aside: one register at most, the flags, SP and the base.
-pub struct Writes {
-    pub register: Write,
-    pub flags: Flags,
-    pub sp: u32,
     pub base: Base,
 }
 
@@ -135,71 +120,6 @@ pub fn set_base(r: Record, b: Base) -> Record
         flags,
         place: r.place,
         base: b,
-    }
-}
-
-// ---- what an instruction writes
-
-// A register and the flags; SP and the base stay.
-pub fn keeping(r: Record, register: Write, flags: Flags) -> Writes
-    ensures { λ w. ⌜ w ≡ writes.keeping r register flags ⌝ }
-{
-    let base = r.base;
-    Writes {
-        register,
-        flags,
-        sp: r.sp,
-        base,
-    }
-}
-
-pub fn writes_nothing(r: Record) -> Writes
-    ensures { λ w. ⌜ w ≡ writes.writesNothing r ⌝ }
-{
-    let flags = r.flags;
-    keeping(r, Write::NoRegister, flags)
-}
-
-// The same, and SP besides.
-pub fn writing_sp(w: Writes, sp: u32) -> Writes
-    ensures { λ v. ⌜ v ≡ writes.writingSp w sp ⌝ }
-{
-    let mut v = w;
-    v.sp = sp;
-    v
-}
-
-// The same, and the base besides.
-pub fn writing_base(w: Writes, base: Base) -> Writes
-    ensures { λ v. ⌜ v ≡ writes.writingBase w base ⌝ }
-{
-    let register = w.register;
-    let flags = w.flags;
-    Writes {
-        register,
-        flags,
-        sp: w.sp,
-        base,
-    }
-}
-
-// The record with what was written, at a place.
-pub fn applied(r: Record, w: Writes, place: u16) -> Record
-    ensures { λ s. ⌜ s ≡ writes.applied r w place ⌝ }
-{
-    let mut regs = r.regs;
-    let register = w.register;
-    let flags = w.flags;
-    let base = w.base;
-    if let Write::Register(k, x) = register {
-        set_in(&mut regs, k, x);
-    }
-    Record {
-        regs,
-        sp: w.sp,
-        flags,
-        place,
-        base,
     }
 }
 

@@ -3,11 +3,11 @@ use Prim.Native.Nat.{ℕ}
 use mathlib.Core.List.{List}
 use lib.ListN.{set}
 use Rattle.arm.specs.declared.Flags.{Flags}
 use Rattle.state.specs.declared.Base.{Base}
 use Rattle.state.specs.declared.Record.{Record}
-use Rattle.state.specs.declared.Write.{Write}
-use Rattle.state.specs.declared.Write.the-variants.{NoRegister, Register}
-use Rattle.state.specs.declared.Writes.{Writes}
+use Rattle.writing.specs.declared.Write.{Write}
+use Rattle.writing.specs.declared.Write.the-variants.{NoRegister, Register}
+use Rattle.writing.specs.declared.Writes.{Writes}
 
 -- a register and the flags; SP and the base stay
 abbrev pub keeping : Record → Write → Flags → Writes

@@ -1,10 +1,10 @@
 use mathlib.Core.Path.{_≡_}
 use lib.ListN.{length}
 use borrow.Author.Needs.{needs}
-use Rattle.state.specs.Writes.{applied}
+use Rattle.writing.specs.Writes.{applied}
 use Rattle.state.proofs.Registers.{set-eighth}
-use Rattle.state.proofs.applied.Statement.{statement}
-use Rattle.state.proofs.applied.Tie as tie
+use Rattle.writing.proofs.applied.Statement.{statement}
+use Rattle.writing.proofs.applied.Tie as tie
 
 returns : tie.Need-returns
 unfolding applied
