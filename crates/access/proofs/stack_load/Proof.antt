@@ -13,4 +13,4 @@ unfolding stackLoaded
 returns-2 c = rw (le-ltb _ _ (c .before .if1 .left)) (c .ram-load .ensures)
 
 pub stack-load-spec : {M : Type 1} → statement M
-stack-load-spec = tie.close (tie.spec (λ c. search needs) returns returns-2)
+stack-load-spec = tie.close (tie.spec (λ c κs. tt) returns returns-2)

@@ -14,4 +14,4 @@ unfolding stackStored afterStackStore
 returns-2 c = rw (le-ltb _ _ (c .before .before .before .before .if1 .left)) (c .before .before .ram-store .ensures)
 
 pub stack-store-spec : {M : Type 1} → statement M
-stack-store-spec = tie.close (tie.spec (λ c. search needs) returns (λ c. search needs) returns-2)
+stack-store-spec = tie.close (tie.spec (λ c κs. tt) returns (λ c. search needs) returns-2)

@@ -30,5 +30,5 @@ unfolding runVerdict
 returns-6 c = rw (sym (c .before .before .before .before .before .before .before .before .fits2 .ensures) ∙ not-false _ (c .before .before .before .before .before .before .before .if1 .left), eq-eqb _ _ (c .before .before .before .before .before .before .if2 .left), sym (c .before .before .before .before .before .external-fits .ensures) ∙ not-false _ (c .before .before .before .before .if3 .left), sym (c .before .before .before .is-fit .ensures) ∙ not-false _ (c .before .before .if4 .left), sym (c .before .is-fit2 .ensures) ∙ not-false _ (c .if5 .left))
 
 pub verdict-of-spec : {M : Type 1} → statement M
-verdict-of-spec = tie.close (tie.spec (λ c. search needs) returns returns-2 (λ c. search needs)
-    returns-3 (λ c. search needs) returns-4 (λ c. search needs) returns-5 returns-6)
+verdict-of-spec = tie.close (tie.spec (λ c κs. tt) returns returns-2 (λ c κs. tt) returns-3
+    (λ c κs. tt) returns-4 (λ c κs. tt) returns-5 returns-6)

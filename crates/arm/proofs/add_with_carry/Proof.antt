@@ -25,4 +25,4 @@ returns c =
 
 pub add-with-carry-spec : {M : Type 1} → statement M
 add-with-carry-spec = tie.close (tie.spec (λ c. search needs) (λ c. search needs) add-sum-2
-    (λ c. search needs) (λ c. search needs) (λ c. search needs) (λ c. search needs) returns)
+    (λ c. search needs) (λ c κs. tt) (λ c κs. tt) (λ c κs. tt) returns)

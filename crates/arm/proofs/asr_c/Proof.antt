@@ -38,5 +38,5 @@ returns-2 c =
     })
 
 pub asr-c-spec : {M : Type 1} → statement M
-asr-c-spec = tie.close (tie.spec returns (λ c. search needs) (λ c. search needs) (λ c. search needs)
-    (λ c. search needs) (λ c. search needs) (λ c. search needs) (λ c. search needs) returns-2)
+asr-c-spec = tie.close (tie.spec returns (λ c κs. tt) (λ c κs. tt) (λ c. search needs) (λ c κs. tt)
+    (λ c. search needs) (λ c. search needs) (λ c κs. tt) returns-2)

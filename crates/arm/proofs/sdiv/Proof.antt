@@ -38,5 +38,5 @@ returns-2 c =
     (c .low-word .ensures ∙ ap lowWord (read (q .result) (q .ok) ∙ (rw (left (c .before .before), right (c .before .before)) at (q .ensures))))
 
 pub sdiv-spec : {M : Type 1} → statement M
-sdiv-spec = tie.close (tie.spec returns (λ c. search needs) (λ c. search needs) quotient-requires
-    (λ c. search needs) returns-2)
+sdiv-spec = tie.close (tie.spec returns (λ c κs. tt) (λ c κs. tt) quotient-requires (λ c κs. tt)
+    returns-2)

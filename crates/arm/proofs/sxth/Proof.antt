@@ -10,4 +10,4 @@ returns c =
     c .low-word .ensures ∙ extended 16 (c .before .before .args .x) (e .result) (e .ok) (e .ensures)
 
 pub sxth-spec : {M : Type 1} → statement M
-sxth-spec = tie.close (tie.spec (λ c. search needs) (λ c. search needs) returns)
+sxth-spec = tie.close (tie.spec (λ c κs. tt) (λ c κs. tt) returns)

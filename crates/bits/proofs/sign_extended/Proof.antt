@@ -30,5 +30,5 @@ returns-3 c =
     read (c .signed .result) (c .signed .ok) ∙ (rw (c .before .field .ensures, e, div-one (a .x)) at (c .signed .ensures))
 
 pub sign-extended-spec : {M : Type 1} → statement M
-sign-extended-spec = tie.close (tie.spec returns (λ c. search needs) returns-2 (λ c. search needs)
+sign-extended-spec = tie.close (tie.spec returns (λ c. search needs) returns-2 (λ c κs. tt)
     (λ c. search needs) signed-requires returns-3)

@@ -26,5 +26,5 @@ returns-2 c =
     ∙ without-top (s .args .x) (s .args .top) (λ e. c .if1 .left (c .before .field .ensures ∙ e))
 
 pub signed-spec : {M : Type 1} → statement M
-signed-spec = tie.close (tie.spec (λ c. search needs) (λ c. search needs) (λ c. search needs)
+signed-spec = tie.close (tie.spec (λ c κs. tt) (λ c. search needs) (λ c. search needs)
     (λ c. search needs) sub-result (λ c. search needs) returns returns-2)

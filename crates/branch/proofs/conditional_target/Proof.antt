@@ -21,4 +21,4 @@ returns : tie.Need-returns
 returns c = c .target-from .ensures ∙ ap (targetOf (c .before .before .args .place)) (offset (c .before))
 
 pub conditional-target-spec : {M : Type 1} → statement M
-conditional-target-spec = tie.close (tie.spec (λ c. search needs) target-from-requires returns)
+conditional-target-spec = tie.close (tie.spec (λ c κs. tt) target-from-requires returns)

@@ -15,6 +15,5 @@ returns-7 c = rw (c .before .before .first2 .given .1) (c .after-second2 .ensure
 
 pub after-first-spec : {M : Type 1} → statement M
 after-first-spec = tie.close (tie.spec (λ c. search needs) (λ c. search needs) (λ c. search needs)
-    (λ c. search needs) (λ c. search needs) (λ c. search needs) (λ c. search needs)
-    (λ c. search needs) (λ c. search needs) (λ c. search needs) returns-4 (λ c. search needs)
-    returns-6 returns-7)
+    (λ c. search needs) (λ c κs. tt) (λ c. search needs) (λ c κs. tt) (λ c. search needs)
+    (λ c. search needs) (λ c. search needs) returns-4 (λ c. search needs) returns-6 returns-7)

@@ -24,5 +24,5 @@ returns-5 c = λ bs e.
 
 pub after-second-spec : {M : Type 1} → statement M
 after-second-spec = tie.close (tie.spec (λ c. search needs) (λ c. search needs) (λ c. search needs)
-    (λ c. search needs) (λ c. search needs) (λ c. search needs) (λ c. search needs)
-    (λ c. search needs) (λ c. search needs) returns returns-2 returns-3 returns-4 returns-5)
+    (λ c κs. tt) (λ c. search needs) (λ c κs. tt) (λ c. search needs) (λ c κs. tt) (λ c κs. tt)
+    returns returns-2 returns-3 returns-4 returns-5)

@@ -8,5 +8,4 @@ unfolding flowOf
 returns c = rw (c .flow-by .ensures, c .before .jump-of .ensures, c .before .before .is-terminator .ensures)
 
 pub flow-of-spec : {M : Type 1} → statement M
-flow-of-spec = tie.close (tie.spec (λ c. search needs) (λ c. search needs) (λ c. search needs)
-    returns)
+flow-of-spec = tie.close (tie.spec (λ c κs. tt) (λ c κs. tt) (λ c κs. tt) returns)

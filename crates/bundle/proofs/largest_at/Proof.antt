@@ -35,8 +35,7 @@ returns-3 c =
     (sym (c .before .before .before .before .before .before .before .before .before .opens-32 .ensures) ∙ c .before .before .before .before .before .before .before .before .if1 .left) (sym (c .before .before .before .before .before .before .before .opens-322 .ensures) ∙ c .before .before .before .before .before .before .if2 .left))
 
 pub largest-at-spec : {M : Type 1} → statement M
-largest-at-spec = tie.close (tie.spec (λ c. search needs) (λ c. search needs) (λ c. search needs)
-    (λ c. search needs) (λ c. search needs) returns (λ c. search needs) returns-2
-    (λ c. search needs) (λ c. search needs) (λ c. search needs) (λ c. search needs)
-    (λ c. search needs) (λ c. search needs) (λ c. search needs) (λ c. search needs)
-    (λ c. search needs) (λ c. search needs) returns-3)
+largest-at-spec = tie.close (tie.spec (λ c κs. tt) (λ c κs. tt) (λ c κs. tt) (λ c. search needs)
+    (λ c κs. tt) returns (λ c κs. tt) returns-2 (λ c. search needs) (λ c. search needs) (λ c κs. tt)
+    (λ c κs. tt) (λ c κs. tt) (λ c κs. tt) (λ c. search needs) (λ c κs. tt) (λ c. search needs)
+    (λ c κs. tt) returns-3)

@@ -7,4 +7,4 @@ returns : tie.Need-returns
 returns c = rw (sym (c .before .is-listed .ensures) ∙ c .if1 .taken)
 
 pub of-wide-spec : {M : Type 1} → statement M
-of-wide-spec = tie.close (tie.spec (λ c. search needs) returns (λ c. search needs))
+of-wide-spec = tie.close (tie.spec (λ c κs. tt) returns (λ c. search needs))

@@ -19,6 +19,6 @@ returns-4 : tie.Need-returns-4
 returns-4 c = rw (tests (c .before .before .before .before .before .args .t1) (omega arith), sym (c .before .before .before .before .sp-fits .ensures) ∙ not-false _ (c .before .before .before .if1 .left), sym (c .before .before .base-in-range .ensures) ∙ not-false _ (c .before .if2 .left), le-leb _ _ (c .if3 .left))
 
 pub in-range-spec : {M : Type 1} → statement M
-in-range-spec = tie.close (tie.spec (λ c. search needs) (λ c. search needs) returns
-    (λ c. search needs) (λ c. search needs) (λ c. search needs) returns-2 (λ c. search needs)
-    returns-3 (λ c. search needs) returns-4)
+in-range-spec = tie.close (tie.spec (λ c. search needs) (λ c κs. tt) returns (λ c. search needs)
+    (λ c. search needs) (λ c κs. tt) returns-2 (λ c. search needs) returns-3 (λ c. search needs)
+    returns-4)

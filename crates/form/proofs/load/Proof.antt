@@ -30,5 +30,5 @@ returns-3 c =
     loaded bytes Accepted (c .record-in .result) (accepted (length bytes) (valuesInRange (decode storedForm bytes)) (c .before .before .before .before .if1 .left) t) (c .record-in .ensures)
 
 pub load-spec : {M : Type 1} → statement M
-load-spec = tie.close (tie.spec (λ c. search needs) returns (λ c. search needs) (λ c. search needs)
-    (λ c. search needs) returns-2 (λ c. search needs) returns-3)
+load-spec = tie.close (tie.spec (λ c κs. tt) returns (λ c κs. tt) (λ c κs. tt) (λ c κs. tt)
+    returns-2 (λ c κs. tt) returns-3)

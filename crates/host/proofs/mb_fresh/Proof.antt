@@ -8,5 +8,5 @@ returns c =
     (rw (c .room-code .ensures, write .0), rw (write .1, c .before .before .before .before .before .fresh-record .ensures))
 
 pub mb-fresh-spec : {M : Type 1} → statement M
-mb-fresh-spec = tie.close (tie.spec (λ c. search needs) (λ c. search needs) (λ c. search needs)
-    (λ c. search needs) returns)
+mb-fresh-spec = tie.close (tie.spec (λ c κs. tt) (λ c κs. tt) (λ c κs. tt) (λ c. search needs)
+    returns)

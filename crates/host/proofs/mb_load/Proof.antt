@@ -9,5 +9,5 @@ returns c =
     (rw (c .room-code .ensures, d .write .ensures .0, c .before .code-of .ensures, load), rw (d .write .ensures .1, load))
 
 pub mb-load-spec : {M : Type 1} → statement M
-mb-load-spec = tie.close (tie.spec (λ c. search needs) (λ c. search needs) (λ c. search needs)
-    (λ c. search needs) (λ c. search needs) returns)
+mb-load-spec = tie.close (tie.spec (λ c κs. tt) (λ c κs. tt) (λ c κs. tt) (λ c κs. tt)
+    (λ c. search needs) returns)

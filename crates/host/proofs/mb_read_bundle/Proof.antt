@@ -8,5 +8,5 @@ returns c =
     (rw (c .code-of .ensures, read), rw (c .before .before .largest-kind .ensures, read), rw (c .before .largest-number .ensures, read))
 
 pub mb-read-bundle-spec : {M : Type 1} → statement M
-mb-read-bundle-spec = tie.close (tie.spec (λ c. search needs) (λ c. search needs)
-    (λ c. search needs) (λ c. search needs) returns)
+mb-read-bundle-spec = tie.close (tie.spec (λ c κs. tt) (λ c κs. tt) (λ c κs. tt) (λ c κs. tt)
+    returns)

@@ -16,6 +16,5 @@ returns-2 c =
     crosses (s .page .now) (s .external .now) (s .bytes .now) (s .ram .now) (s .budget) (d .before .record-in .result) (d .run .result) (c .numbers-of .result) _ _ held (d .before .record-in .ensures) (d .run .ensures) (c .numbers-of .ensures) (c .before .before .before .write .ensures .1)
 
 pub mb-run-spec : {M : Type 1} → statement M
-mb-run-spec = tie.close (tie.spec (λ c. search needs) (λ c. search needs) returns
-    (λ c. search needs) (λ c. search needs) (λ c. search needs) (λ c. search needs)
-    (λ c. search needs) (λ c. search needs) returns-2)
+mb-run-spec = tie.close (tie.spec (λ c κs. tt) (λ c. search needs) returns (λ c κs. tt) (λ c κs. tt)
+    (λ c κs. tt) (λ c κs. tt) (λ c. search needs) (λ c. search needs) returns-2)

@@ -15,5 +15,5 @@ returns-2 c =
     (rw (held, c .code-of .ensures, d .store .ensures .0, same), rw (held, d .store .ensures .1, same))
 
 pub mb-store-spec : {M : Type 1} → statement M
-mb-store-spec = tie.close (tie.spec (λ c. search needs) returns (λ c. search needs)
-    (λ c. search needs) (λ c. search needs) (λ c. search needs) returns-2)
+mb-store-spec = tie.close (tie.spec (λ c κs. tt) returns (λ c κs. tt) (λ c κs. tt) (λ c κs. tt)
+    (λ c. search needs) returns-2)

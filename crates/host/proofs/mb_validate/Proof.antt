@@ -8,5 +8,4 @@ returns c =
     (rw (c .code-of .ensures, validated), rw (c .before .before .kind-of .ensures, validated), rw (c .before .offset-of .ensures, validated))
 
 pub mb-validate-spec : {M : Type 1} → statement M
-mb-validate-spec = tie.close (tie.spec (λ c. search needs) (λ c. search needs) (λ c. search needs)
-    (λ c. search needs) returns)
+mb-validate-spec = tie.close (tie.spec (λ c κs. tt) (λ c κs. tt) (λ c κs. tt) (λ c κs. tt) returns)

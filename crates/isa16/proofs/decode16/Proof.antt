@@ -10,5 +10,5 @@ of-class-requires : tie.Need-of-class-requires
 of-class-requires c κs = c .class .ensures ∙ ap classOf (c .before .field .ensures ∙ top-byte (c .before .before .args .h) (omega arith))
 
 pub decode16-spec : {M : Type 1} → statement M
-decode16-spec = tie.close (tie.spec (λ c. search needs) (λ c. search needs) (λ c. search needs)
-    of-class-requires (λ c. search needs))
+decode16-spec = tie.close (tie.spec (λ c κs. tt) (λ c. search needs) (λ c κs. tt) of-class-requires
+    (λ c. search needs))

@@ -27,5 +27,5 @@ returns-4 c =
     rw (c .before .before .read-operands .ensures) (by-ten 35 0x2CB refl (c .before .before .before .args .h) (omega arith))
 
 pub extension-spec : {M : Type 1} → statement M
-extension-spec = tie.close (tie.spec (λ c. search needs) (λ c. search needs) (λ c. search needs)
-    returns returns-2 returns-3 returns-4)
+extension-spec = tie.close (tie.spec (λ c κs. tt) (λ c. search needs) (λ c κs. tt) returns returns-2
+    returns-3 returns-4)

@@ -28,4 +28,4 @@ returns-2 c =
     by-low 0x46 12 refl (m-d MovReg) (refl, tt) false 64 192 refl h (c .before .before .before .pre) (omega arith) (omega arith)
 
 pub move-register-spec : {M : Type 1} → statement M
-move-register-spec = tie.close (tie.spec (λ c. search needs) returns returns-2)
+move-register-spec = tie.close (tie.spec (λ c κs. tt) returns returns-2)

@@ -19,4 +19,4 @@ unfolding classOf matches
 returns-2 c = by-low 0xBF 18 refl (λ h. Data Nop) (refl, tt) false 1 255 refl (c .before .before .args .h) (c .before .before .pre) (omega arith) (omega arith)
 
 pub nop-spec : {M : Type 1} → statement M
-nop-spec = tie.close (tie.spec (λ c. search needs) returns returns-2)
+nop-spec = tie.close (tie.spec (λ c κs. tt) returns returns-2)

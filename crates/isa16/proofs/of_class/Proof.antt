@@ -96,9 +96,8 @@ returns-25 : tie.Need-returns-25
 returns-25 c = no-class (c .before .before .args .h) (c .before .before .args .k) (c .before .before .pre) (past 24 (c .match .rest))
 
 pub of-class-spec : {M : Type 1} → statement M
-of-class-spec = tie.close (tie.spec (λ c. search needs) register-operation-requires
-    move-register-requires extension-requires nop-requires service-requires returns returns-2
-    returns-3 returns-4 returns-5 returns-6 returns-7 returns-8 returns-9 returns-10 returns-11
-    (λ c. search needs) (λ c. search needs) returns-14 returns-15 returns-16 returns-17
-    (λ c. search needs) (λ c. search needs) returns-20 returns-21 returns-22 returns-23
-    (λ c. search needs) returns-25)
+of-class-spec = tie.close (tie.spec (λ c κs. tt) register-operation-requires move-register-requires
+    extension-requires nop-requires service-requires returns returns-2 returns-3 returns-4 returns-5
+    returns-6 returns-7 returns-8 returns-9 returns-10 returns-11 (λ c. search needs)
+    (λ c. search needs) returns-14 returns-15 returns-16 returns-17 (λ c. search needs)
+    (λ c. search needs) returns-20 returns-21 returns-22 returns-23 (λ c. search needs) returns-25)

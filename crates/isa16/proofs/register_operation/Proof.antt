@@ -75,7 +75,6 @@ returns-16 c =
     rw (c .before .before .read-operands .ensures) (by-ten 26 271 refl (c .before .before .before .args .h) (omega arith))
 
 pub register-operation-spec : {M : Type 1} → statement M
-register-operation-spec = tie.close (tie.spec (λ c. search needs) (λ c. search needs)
-    (λ c. search needs) returns returns-2 returns-3 returns-4 returns-5 returns-6 returns-7
-    returns-8 returns-9 returns-10 returns-11 returns-12 returns-13 returns-14 returns-15
-    returns-16)
+register-operation-spec = tie.close (tie.spec (λ c κs. tt) (λ c. search needs) (λ c κs. tt) returns
+    returns-2 returns-3 returns-4 returns-5 returns-6 returns-7 returns-8 returns-9 returns-10
+    returns-11 returns-12 returns-13 returns-14 returns-15 returns-16)

@@ -39,4 +39,4 @@ returns-3 c =
     rw low (by-low 0xDF 23 refl (λ h. Service (bits h 7 0)) alike true 0xF0 16 refl h (c .before .before .before .pre) (omega arith) (omega arith))
 
 pub service-spec : {M : Type 1} → statement M
-service-spec = tie.close (tie.spec (λ c. search needs) returns returns-2 returns-3)
+service-spec = tie.close (tie.spec (λ c κs. tt) returns returns-2 returns-3)

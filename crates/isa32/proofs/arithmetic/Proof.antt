@@ -30,6 +30,6 @@ returns-5 c =
     )
 
 pub arithmetic-spec : {M : Type 1} → statement M
-arithmetic-spec = tie.close (tie.spec (λ c. search needs) (λ c. search needs) (λ c. search needs)
-    (λ c. search needs) (λ c. search needs) (λ c. search needs) (λ c. search needs) returns
-    returns-2 returns-3 returns-4 returns-5)
+arithmetic-spec = tie.close (tie.spec (λ c κs. tt) (λ c. search needs) (λ c κs. tt)
+    (λ c. search needs) (λ c κs. tt) (λ c. search needs) (λ c κs. tt) returns returns-2 returns-3
+    returns-4 returns-5)

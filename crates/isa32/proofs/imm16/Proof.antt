@@ -17,6 +17,5 @@ returns c =
     (sixteen (c .before .before .before .before .before .before .before .args .w))
 
 pub imm16-spec : {M : Type 1} → statement M
-imm16-spec = tie.close (tie.spec (λ c. search needs) (λ c. search needs) (λ c. search needs)
-    (λ c. search needs) (λ c. search needs) (λ c. search needs) (λ c. search needs)
-    (λ c. search needs) returns)
+imm16-spec = tie.close (tie.spec (λ c κs. tt) (λ c κs. tt) (λ c κs. tt) (λ c κs. tt) (λ c κs. tt)
+    (λ c κs. tt) (λ c κs. tt) (λ c. search needs) returns)

@@ -23,6 +23,5 @@ add-result-3 : tie.Need-add-result-3
 add-result-3 c = omega (arith, bit-small (c .before .before .before .before .args .f .n), bit-small (c .before .before .before .before .args .f .z), bit-small (c .before .before .before .before .args .f .c), bit-small (c .before .before .before .before .args .f .v))
 
 pub flags-number-spec : {M : Type 1} → statement M
-flags-number-spec = tie.close (tie.spec (λ c. search needs) mul-result (λ c. search needs)
-    mul-result-2 add-result (λ c. search needs) mul-result-3 add-result-2 (λ c. search needs)
-    add-result-3 (λ c. search needs))
+flags-number-spec = tie.close (tie.spec (λ c κs. tt) mul-result (λ c κs. tt) mul-result-2 add-result
+    (λ c κs. tt) mul-result-3 add-result-2 (λ c κs. tt) add-result-3 (λ c. search needs))

@@ -11,5 +11,5 @@ returns-2 : tie.Need-returns-2
 returns-2 c = rw (sym (c .before .base-stands .ensures) ∙ not-false _ (c .if1 .left))
 
 pub is-record-spec : {M : Type 1} → statement M
-is-record-spec = tie.close (tie.spec (λ c. search needs) (λ c. search needs) (λ c. search needs)
-    returns (λ c. search needs) returns-2)
+is-record-spec = tie.close (tie.spec (λ c. search needs) (λ c. search needs) (λ c κs. tt) returns
+    (λ c. search needs) returns-2)

@@ -13,4 +13,4 @@ returns : tie.Need-returns
 returns c = c .record-of .ensures ∙ ap recordOf (c .before .values-in .ensures)
 
 pub record-in-spec : {M : Type 1} → statement M
-record-in-spec = tie.close (tie.spec (λ c. search needs) record-of-requires returns)
+record-in-spec = tie.close (tie.spec (λ c κs. tt) record-of-requires returns)

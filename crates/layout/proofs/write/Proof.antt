@@ -12,5 +12,5 @@ returns-2 c =
     (rw long, rw (c .before .before .write-values .ensures, c .before .before .before .before .values-of .ensures, long))
 
 pub write-spec : {M : Type 1} → statement M
-write-spec = tie.close (tie.spec returns (λ c. search needs) (λ c. search needs) (λ c. search needs)
+write-spec = tie.close (tie.spec returns (λ c κs. tt) (λ c. search needs) (λ c. search needs)
     returns-2)

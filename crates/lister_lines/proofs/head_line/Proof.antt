@@ -14,6 +14,5 @@ returns c =
     then count .put-decimal2 .ensures then c .before .before .push .ensures
 
 pub head-line-spec : {M : Type 1} → statement M
-head-line-spec = tie.close (tie.spec (λ c. search needs) (λ c. search needs) (λ c. search needs)
-    (λ c. search needs) (λ c. search needs) (λ c. search needs) (λ c. search needs)
-    (λ c. search needs) returns)
+head-line-spec = tie.close (tie.spec (λ c. search needs) (λ c κs. tt) (λ c κs. tt)
+    (λ c. search needs) (λ c κs. tt) (λ c κs. tt) (λ c κs. tt) (λ c. search needs) returns)

@@ -12,5 +12,5 @@ unfolding insideText
 returns-2 c = rw (c .before .before .before .before .before .if1 .left) (c .before .before .put2 .ensures)
 
 pub put-inside-spec : {M : Type 1} → statement M
-put-inside-spec = tie.close (tie.spec (λ c. search needs) (λ c. search needs) (λ c. search needs)
-    (λ c. search needs) (λ c. search needs) returns (λ c. search needs) returns-2)
+put-inside-spec = tie.close (tie.spec (λ c. search needs) (λ c κs. tt) (λ c. search needs)
+    (λ c κs. tt) (λ c. search needs) returns (λ c. search needs) returns-2)

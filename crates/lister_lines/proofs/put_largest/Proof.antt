@@ -16,7 +16,6 @@ unfolding largestText
 returns-3 c = rw (c .before .before .before .before .before .largest .given .1) (c .before .before .put-decimal .ensures)
 
 pub put-largest-spec : {M : Type 1} → statement M
-put-largest-spec = tie.close (tie.spec (λ c. search needs) (λ c. search needs) (λ c. search needs)
-    (λ c. search needs) (λ c. search needs) (λ c. search needs) (λ c. search needs)
-    (λ c. search needs) (λ c. search needs) returns (λ c. search needs) returns-2
-    (λ c. search needs) returns-3)
+put-largest-spec = tie.close (tie.spec (λ c. search needs) (λ c. search needs) (λ c κs. tt)
+    (λ c. search needs) (λ c. search needs) (λ c κs. tt) (λ c. search needs) (λ c κs. tt)
+    (λ c. search needs) returns (λ c. search needs) returns-2 (λ c. search needs) returns-3)

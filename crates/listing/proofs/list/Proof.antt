@@ -12,5 +12,5 @@ returns c =
     rw (c .before .before .before .before .first .ensures, text .1) at (c .before .before .place .ensures)
 
 pub list-spec : {M : Type 1} → statement M
-list-spec = tie.close (tie.spec (λ c. search needs) (λ c. search needs) (λ c. search needs)
-    (λ c. search needs) (λ c. search needs) (λ c. search needs) returns)
+list-spec = tie.close (tie.spec (λ c. search needs) (λ c κs. tt) (λ c. search needs) (λ c κs. tt)
+    (λ c κs. tt) (λ c. search needs) returns)

@@ -15,5 +15,5 @@ returns c =
     at (c .before .before .bundle-line .ensures)
 
 pub put-bundle-spec : {M : Type 1} → statement M
-put-bundle-spec = tie.close (tie.spec (λ c. search needs) (λ c. search needs) (λ c. search needs)
-    (λ c. search needs) returns)
+put-bundle-spec = tie.close (tie.spec (λ c κs. tt) (λ c κs. tt) (λ c κs. tt) (λ c. search needs)
+    returns)

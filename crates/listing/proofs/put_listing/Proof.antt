@@ -23,5 +23,5 @@ returns-2 c =
     rw (listing-accepted page (called .count .ensures) (matched .enum-told .given .1)) at (c .before .before .put-page .ensures)
 
 pub put-listing-spec : {M : Type 1} → statement M
-put-listing-spec = tie.close (tie.spec (λ c. search needs) (λ c. search needs) (λ c. search needs)
+put-listing-spec = tie.close (tie.spec (λ c κs. tt) (λ c. search needs) (λ c κs. tt)
     (λ c. search needs) put-page-requires (λ c. search needs) returns (λ c. search needs) returns-2)

@@ -51,5 +51,5 @@ same-length : tie.Need-same-length Inv-loop μ-loop
 same-length c = keeps-length (returns c)
 
 pub put-page-spec : {M : Type 1} → statement M
-put-page-spec = tie.close (tie.spec Inv-loop μ-loop cast-bundles (λ c. search needs) loop-holds
+put-page-spec = tie.close (tie.spec Inv-loop μ-loop cast-bundles (λ c κs. tt) loop-holds
     put-bundle-requires add-k (λ c. search needs) loop-again same-length returns)

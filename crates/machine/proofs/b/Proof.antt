@@ -10,4 +10,4 @@ returns : tie.Need-returns
 returns c = λ m. rw (← c .before .branch-target .ensures) (c .branch-to .ensures m)
 
 pub b-spec : {M : Type 1} → statement M
-b-spec = tie.close (tie.spec (λ c. search needs) branch-to-requires returns)
+b-spec = tie.close (tie.spec (λ c κs. tt) branch-to-requires returns)

@@ -12,5 +12,5 @@ returns : tie.Need-returns
 returns c = λ m. branching _ m _ _ _ _ _ _ _ (c .before .before .before .condition-holds .ensures) (c .before .before .next-place .ensures) (c .before .conditional-target .ensures) (c .branch-if .ensures m)
 
 pub bcc-spec : {M : Type 1} → statement M
-bcc-spec = tie.close (tie.spec (λ c. search needs) (λ c. search needs) (λ c. search needs)
-    branch-if-requires returns)
+bcc-spec = tie.close (tie.spec (λ c κs. tt) (λ c. search needs) (λ c κs. tt) branch-if-requires
+    returns)

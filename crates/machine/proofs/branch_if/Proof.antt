@@ -13,4 +13,4 @@ unfolding branchIf executedOf
 returns-2 c = λ m. rw (c .before .if1 .left, c .set-place .ensures)
 
 pub branch-if-spec : {M : Type 1} → statement M
-branch-if-spec = tie.close (tie.spec (λ c. search needs) returns (λ c. search needs) returns-2)
+branch-if-spec = tie.close (tie.spec (λ c. search needs) returns (λ c κs. tt) returns-2)

@@ -20,5 +20,5 @@ unfolding branchTo executedOf
 returns-2 c = λ m. rw (c .before .before .t .given .1, c .set-place .ensures)
 
 pub branch-to-spec : {M : Type 1} → statement M
-branch-to-spec = tie.close (tie.spec (λ c. search needs) (λ c. search needs) (λ c. search needs)
-    mul-set-place cast-set-place (λ c. search needs) returns returns-2)
+branch-to-spec = tie.close (tie.spec (λ c. search needs) (λ c κs. tt) (λ c. search needs)
+    mul-set-place cast-set-place (λ c κs. tt) returns returns-2)

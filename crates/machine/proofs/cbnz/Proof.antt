@@ -16,5 +16,5 @@ returns : tie.Need-returns
 returns c = λ m. branching _ m _ _ _ _ _ _ _ (ap (λ (v : ℕ). not (eqb v 0)) (c .before .before .before .register-of .ensures)) (c .before .before .next-place .ensures) (c .before .compare-target .ensures) (c .branch-if .ensures m)
 
 pub cbnz-spec : {M : Type 1} → statement M
-cbnz-spec = tie.close (tie.spec (λ c. search needs) (λ c. search needs) (λ c. search needs)
-    branch-if-requires returns)
+cbnz-spec = tie.close (tie.spec (λ c κs. tt) (λ c. search needs) (λ c κs. tt) branch-if-requires
+    returns)

@@ -20,5 +20,5 @@ unfolding instructionOf instructionAt effectOf effectRam
 returns-2 c = rw (le-ltb _ _ (c .before .if1 .left)) (c .unlisted .ensures, refl)
 
 pub execute-spec : {M : Type 1} → statement M
-execute-spec = tie.close (tie.spec (λ c. search needs) perform-requires (λ c. search needs)
+execute-spec = tie.close (tie.spec (λ c. search needs) perform-requires (λ c κs. tt)
     (λ c. search needs) returns returns-2)

@@ -39,9 +39,9 @@ unfolding effectOf effectRam
 returns-8 c = rw (c .before .enum-told2 .given .1) (c .unlisted2 .ensures, refl)
 
 pub perform-spec : {M : Type 1} → statement M
-perform-spec = tie.close (tie.spec (λ c. search needs) (λ c. search needs) (λ c. search needs)
+perform-spec = tie.close (tie.spec (λ c. search needs) (λ c κs. tt) (λ c. search needs)
+    (λ c. search needs) (λ c. search needs) (λ c κs. tt) (λ c. search needs) (λ c. search needs)
     (λ c. search needs) (λ c. search needs) (λ c. search needs) (λ c. search needs)
     (λ c. search needs) (λ c. search needs) (λ c. search needs) (λ c. search needs)
-    (λ c. search needs) (λ c. search needs) (λ c. search needs) (λ c. search needs)
-    (λ c. search needs) (λ c. search needs) (λ c. search needs) returns (λ c. search needs)
-    returns-2 returns-3 returns-4 returns-5 returns-6 (λ c. search needs) returns-7 returns-8)
+    (λ c. search needs) (λ c κs. tt) returns (λ c. search needs) returns-2 returns-3 returns-4
+    returns-5 returns-6 (λ c. search needs) returns-7 returns-8)

@@ -17,5 +17,5 @@ returns-2 : tie.Need-returns-2
 returns-2 c = rw (sym (c .before .before .before .before .before .before .verdict-of .ensures) ∙ c .before .before .before .before .enum-told .given .1) (c .before .before .run-on .ensures)
 
 pub run-spec : {M : Type 1} → statement M
-run-spec = tie.close (tie.spec (λ c. search needs) (λ c. search needs) (λ c. search needs)
-    run-on-requires (λ c. search needs) returns (λ c. search needs) returns-2)
+run-spec = tie.close (tie.spec (λ c κs. tt) (λ c. search needs) (λ c. search needs) run-on-requires
+    (λ c. search needs) returns (λ c. search needs) returns-2)

@@ -105,10 +105,10 @@ returns-5 : tie.Need-returns-5 Inv-loop μ-loop
 returns-5 c = rw (c .stopped5 .ensures) (sym (spent _ _ _ _ _ (omega arith)) ∙ c .before .before .loop .inv .0)
 
 pub run-on-spec : {M : Type 1} → statement M
-run-on-spec = tie.close (tie.spec Inv-loop μ-loop loop-holds (λ c. search needs) (λ c. search needs)
-    next-place-requires (λ c. search needs) (λ c. search needs) (λ c. search needs)
-    (λ c. search needs) add-steps loop-less loop-again execute-requires (λ c. search needs)
-    add-steps-2 loop-less-2 loop-again-2 (λ c. search needs) add-stopped (λ c. search needs)
-    same-length returns (λ c. search needs) add-stopped-2 (λ c. search needs) same-length-2
-    returns-2 (λ c. search needs) (λ c. search needs) same-length-3 returns-3 (λ c. search needs)
-    (λ c. search needs) same-length-4 returns-4 (λ c. search needs) same-length-5 returns-5)
+run-on-spec = tie.close (tie.spec Inv-loop μ-loop loop-holds (λ c κs. tt) (λ c. search needs)
+    next-place-requires (λ c κs. tt) (λ c. search needs) (λ c κs. tt) (λ c. search needs) add-steps
+    loop-less loop-again execute-requires (λ c. search needs) add-steps-2 loop-less-2 loop-again-2
+    (λ c. search needs) add-stopped (λ c κs. tt) same-length returns (λ c. search needs)
+    add-stopped-2 (λ c κs. tt) same-length-2 returns-2 (λ c. search needs) (λ c κs. tt)
+    same-length-3 returns-3 (λ c. search needs) (λ c κs. tt) same-length-4 returns-4 (λ c κs. tt)
+    same-length-5 returns-5)

@@ -8,5 +8,5 @@ unfolding wordAt
 returns c = rw (c .before .before .halves-of .ensures)
 
 pub word-spec : {M : Type 1} → statement M
-word-spec = tie.close (tie.spec (λ c. search needs) (λ c. search needs) (λ c. search needs)
+word-spec = tie.close (tie.spec (λ c κs. tt) (λ c. search needs) (λ c. search needs)
     (λ c. search needs) (λ c. search needs) returns)

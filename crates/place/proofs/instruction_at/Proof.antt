@@ -13,5 +13,5 @@ unfolding instructionAt
 returns-2 c = rw (le-ltb _ _ (c .if1 .left))
 
 pub instruction-at-spec : {M : Type 1} → statement M
-instruction-at-spec = tie.close (tie.spec (λ c. search needs) (λ c. search needs)
-    (λ c. search needs) (λ c. search needs) returns returns-2)
+instruction-at-spec = tie.close (tie.spec (λ c. search needs) (λ c. search needs) (λ c κs. tt)
+    (λ c κs. tt) returns returns-2)

@@ -19,5 +19,5 @@ unfolding fitPlace
 returns-3 c = rw (← ap (λ (x : Counted). x .count) (c .before .before .before .before .before .count .ensures), lt-ltb _ _ (c .before .before .before .if1 .left), ne-eqb _ _ (c .before .before .if2 .left), c .second-fits .ensures, c .before .halves-of .ensures)
 
 pub is-fit-spec : {M : Type 1} → statement M
-is-fit-spec = tie.close (tie.spec (λ c. search needs) (λ c. search needs) returns returns-2
-    (λ c. search needs) (λ c. search needs) returns-3)
+is-fit-spec = tie.close (tie.spec (λ c. search needs) (λ c κs. tt) returns returns-2 (λ c κs. tt)
+    (λ c κs. tt) returns-3)

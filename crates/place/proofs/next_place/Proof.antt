@@ -14,5 +14,5 @@ unfolding following
 returns-2 c = rw (← ap (λ (h : Halves). h .first) (c .before .before .halves-of .ensures), sym (c .before .opens-32 .ensures) ∙ c .if1 .left)
 
 pub next-place-spec : {M : Type 1} → statement M
-next-place-spec = tie.close (tie.spec (λ c. search needs) (λ c. search needs) (λ c. search needs)
+next-place-spec = tie.close (tie.spec (λ c. search needs) (λ c κs. tt) (λ c κs. tt)
     (λ c. search needs) (λ c. search needs) returns returns-2)

@@ -17,5 +17,5 @@ unfolding secondFits
 returns-3 c = rw (sym (c .before .before .before .before .before .opens-32 .ensures) ∙ c .before .before .before .before .if1 .left, sym (c .before .before .before .opens-322 .ensures) ∙ c .before .before .if2 .left, c .is-terminator .ensures, c .before .decode16 .ensures)
 
 pub second-fits-spec : {M : Type 1} → statement M
-second-fits-spec = tie.close (tie.spec (λ c. search needs) returns (λ c. search needs) returns-2
-    (λ c. search needs) (λ c. search needs) returns-3)
+second-fits-spec = tie.close (tie.spec (λ c κs. tt) returns (λ c κs. tt) returns-2 (λ c κs. tt)
+    (λ c κs. tt) returns-3)

@@ -21,5 +21,5 @@ unfolding standsIn
 returns-4 c = rw (sym (c .before .before .before .opens-32 .ensures) ∙ c .before .before .if1 .left, c .before .if3 .left) (c .decode162 .ensures)
 
 pub stands-in-spec : {M : Type 1} → statement M
-stands-in-spec = tie.close (tie.spec (λ c. search needs) (λ c. search needs) returns returns-2
-    (λ c. search needs) (λ c. search needs) returns-3 returns-4)
+stands-in-spec = tie.close (tie.spec (λ c κs. tt) (λ c κs. tt) returns returns-2 (λ c κs. tt)
+    (λ c κs. tt) returns-3 returns-4)

@@ -15,6 +15,5 @@ returns c =
     then carry .put-flag3 .ensures then v .put-flag4 .ensures then c .before .before .push .ensures
 
 pub flags-line-spec : {M : Type 1} → statement M
-flags-line-spec = tie.close (tie.spec (λ c. search needs) (λ c. search needs) (λ c. search needs)
-    (λ c. search needs) (λ c. search needs) (λ c. search needs) (λ c. search needs)
-    (λ c. search needs) returns)
+flags-line-spec = tie.close (tie.spec (λ c. search needs) (λ c κs. tt) (λ c κs. tt) (λ c κs. tt)
+    (λ c κs. tt) (λ c κs. tt) (λ c κs. tt) (λ c. search needs) returns)

@@ -8,5 +8,4 @@ unfolding placeText
 returns c = c .before .before .number-line .ensures
 
 pub place-line-spec : {M : Type 1} → statement M
-place-line-spec = tie.close (tie.spec (λ c. search needs) (λ c. search needs) (λ c. search needs)
-    returns)
+place-line-spec = tie.close (tie.spec (λ c. search needs) (λ c κs. tt) (λ c. search needs) returns)

@@ -12,5 +12,5 @@ unfolding flagText
 returns-2 c = rw (c .before .before .before .before .if1 .left) (c .before .before .push2 .ensures)
 
 pub put-flag-spec : {M : Type 1} → statement M
-put-flag-spec = tie.close (tie.spec (λ c. search needs) (λ c. search needs) (λ c. search needs)
-    returns (λ c. search needs) returns-2)
+put-flag-spec = tie.close (tie.spec (λ c κs. tt) (λ c κs. tt) (λ c. search needs) returns
+    (λ c. search needs) returns-2)

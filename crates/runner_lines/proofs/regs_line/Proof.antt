@@ -43,6 +43,6 @@ same-length : tie.Need-same-length Inv-loop μ-loop
 same-length c = keeps-length (returns c)
 
 pub regs-line-spec : {M : Type 1} → statement M
-regs-line-spec = tie.close (tie.spec Inv-loop μ-loop (λ c. search needs) (λ c. search needs)
-    loop-holds (λ c. search needs) (λ c. search needs) (λ c. search needs) (λ c. search needs)
-    (λ c. search needs) (λ c. search needs) loop-again (λ c. search needs) same-length returns)
+regs-line-spec = tie.close (tie.spec Inv-loop μ-loop (λ c. search needs) (λ c κs. tt) loop-holds
+    (λ c κs. tt) (λ c. search needs) (λ c. search needs) (λ c κs. tt) (λ c. search needs)
+    (λ c. search needs) loop-again (λ c κs. tt) same-length returns)

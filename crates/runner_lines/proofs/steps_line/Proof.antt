@@ -8,5 +8,4 @@ unfolding stepsText
 returns c = c .before .before .number-line .ensures
 
 pub steps-line-spec : {M : Type 1} → statement M
-steps-line-spec = tie.close (tie.spec (λ c. search needs) (λ c. search needs) (λ c. search needs)
-    returns)
+steps-line-spec = tie.close (tie.spec (λ c. search needs) (λ c κs. tt) (λ c. search needs) returns)

@@ -80,7 +80,6 @@ returns-10 : tie.Need-returns-10
 returns-10 c = sym (by-fields (c .before) ∙ List·getD-eq-default (listed (c .before)) Bad (past 6 (c .match .rest)))
 
 pub address-operation-spec : {M : Type 1} → statement M
-address-operation-spec = tie.close (tie.spec (λ c. search needs) (λ c. search needs)
-    (λ c. search needs) (λ c. search needs) (λ c. search needs) (λ c. search needs)
-    (λ c. search needs) returns returns-2 returns-3 returns-4 returns-5 returns-6 returns-7
-    returns-8 returns-9 returns-10)
+address-operation-spec = tie.close (tie.spec (λ c κs. tt) (λ c κs. tt) (λ c κs. tt)
+    (λ c. search needs) (λ c. search needs) (λ c. search needs) (λ c. search needs) returns
+    returns-2 returns-3 returns-4 returns-5 returns-6 returns-7 returns-8 returns-9 returns-10)

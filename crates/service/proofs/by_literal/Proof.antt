@@ -13,4 +13,4 @@ unfolding literalService
 returns-2 c = rw (le-ltb _ _ (c .if1 .left))
 
 pub by-literal-spec : {M : Type 1} → statement M
-by-literal-spec = tie.close (tie.spec (λ c. search needs) (λ c. search needs) returns returns-2)
+by-literal-spec = tie.close (tie.spec (λ c. search needs) (λ c κs. tt) returns returns-2)

@@ -23,4 +23,4 @@ returns-3 c =
     (sym (List·getD-eq-default (Call ∷ TailCall ∷ []) Bad (past 2 (c .match .rest))))
 
 pub call-spec : {M : Type 1} → statement M
-call-spec = tie.close (tie.spec (λ c. search needs) returns returns-2 returns-3)
+call-spec = tie.close (tie.spec (λ c κs. tt) returns returns-2 returns-3)

@@ -27,5 +27,5 @@ returns-3 c =
     (c .address-operation .ensures)
 
 pub literal-spec : {M : Type 1} → statement M
-literal-spec = tie.close (tie.spec (λ c. search needs) (λ c. search needs) returns
-    (λ c. search needs) (λ c. search needs) returns-2 (λ c. search needs) returns-3)
+literal-spec = tie.close (tie.spec (λ c κs. tt) (λ c κs. tt) returns (λ c κs. tt) (λ c κs. tt)
+    returns-2 (λ c κs. tt) returns-3)

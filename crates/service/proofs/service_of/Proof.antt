@@ -107,5 +107,5 @@ returns-9 c =
     )
 
 pub service-of-spec : {M : Type 1} → statement M
-service-of-spec = tie.close (tie.spec returns (λ c. search needs) returns-2 returns-3
-    (λ c. search needs) returns-4 returns-5 returns-6 returns-7 returns-8 returns-9)
+service-of-spec = tie.close (tie.spec returns (λ c κs. tt) returns-2 returns-3 (λ c. search needs)
+    returns-4 returns-5 returns-6 returns-7 returns-8 returns-9)

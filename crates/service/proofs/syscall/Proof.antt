@@ -29,5 +29,4 @@ returns-3 c =
     )
 
 pub syscall-spec : {M : Type 1} → statement M
-syscall-spec = tie.close (tie.spec (λ c. search needs) returns (λ c. search needs) returns-2
-    returns-3)
+syscall-spec = tie.close (tie.spec (λ c κs. tt) returns (λ c κs. tt) returns-2 returns-3)

@@ -9,5 +9,5 @@ slice-aggregate-run-bytes : tie.Need-slice-aggregate-run-bytes
 slice-aggregate-run-bytes c = sym (length-take-le (c .before .before .assemble .result) (c .before .before .assemble .last .1 .0) (omega arith))
 
 pub run-spec : {M : Type 1} → statement M
-run-spec = tie.close (tie.spec (λ c. search needs) (λ c. search needs) (λ c. search needs)
-    slice-aggregate-run-bytes (λ c. search needs) (λ c. search needs) (λ c. search needs))
+run-spec = tie.close (tie.spec (λ c. search needs) (λ c κs. tt) (λ c. search needs)
+    slice-aggregate-run-bytes (λ c κs. tt) (λ c. search needs) (λ c. search needs))

@@ -34,5 +34,5 @@ loop-again c = omega arith
 
 pub run-lines-spec : {M : Type 1} → statement M
 run-lines-spec = tie.close (tie.spec Inv-loop μ-loop loop-holds (λ c. search needs) sub-run-line
-    part-run-line-start part-run-line-end (λ c. search needs) add-start loop-less loop-again
+    part-run-line-start part-run-line-end (λ c κs. tt) add-start loop-less loop-again
     (λ c. search needs))

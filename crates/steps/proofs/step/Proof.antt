@@ -9,6 +9,6 @@ slice-aggregate-step : tie.Need-slice-aggregate-step
 slice-aggregate-step c = sym (length-take-le (c .before .before .assemble .result) (c .before .before .assemble .last .1 .0) (omega arith))
 
 pub step-spec : {M : Type 1} → statement M
-step-spec = tie.close (tie.spec (λ c. search needs) (λ c. search needs) (λ c. search needs)
-    slice-aggregate-step (λ c. search needs) (λ c. search needs) (λ c. search needs)
-    (λ c. search needs) (λ c. search needs))
+step-spec = tie.close (tie.spec (λ c. search needs) (λ c κs. tt) (λ c. search needs)
+    slice-aggregate-step (λ c. search needs) (λ c κs. tt) (λ c κs. tt) (λ c. search needs)
+    (λ c. search needs))

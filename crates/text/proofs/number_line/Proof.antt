@@ -9,5 +9,5 @@ returns c =
     number .before .before .before .before .put .ensures then number .put-decimal .ensures then c .before .before .push .ensures
 
 pub number-line-spec : {M : Type 1} → statement M
-number-line-spec = tie.close (tie.spec (λ c. search needs) (λ c. search needs) (λ c. search needs)
-    (λ c. search needs) returns)
+number-line-spec = tie.close (tie.spec (λ c κs. tt) (λ c κs. tt) (λ c κs. tt) (λ c. search needs)
+    returns)

@@ -46,5 +46,5 @@ same-length : tie.Need-same-length Inv-loop μ-loop
 same-length c = keeps-length (returns c)
 
 pub put-spec : {M : Type 1} → statement M
-put-spec = tie.close (tie.spec Inv-loop μ-loop (λ c. search needs) loop-holds shared-slice-read-push
-    (λ c. search needs) add-i loop-less loop-again same-length returns)
+put-spec = tie.close (tie.spec Inv-loop μ-loop (λ c κs. tt) loop-holds shared-slice-read-push
+    (λ c κs. tt) add-i loop-less loop-again same-length returns)

@@ -21,6 +21,5 @@ returns-2 c =
     then regs .regs-line .ensures then c .before .before .flags-line .ensures)
 
 pub put-run-spec : {M : Type 1} → statement M
-put-run-spec = tie.close (tie.spec (λ c. search needs) (λ c. search needs) (λ c. search needs)
-    returns (λ c. search needs) (λ c. search needs) (λ c. search needs) (λ c. search needs)
-    (λ c. search needs) returns-2)
+put-run-spec = tie.close (tie.spec (λ c κs. tt) (λ c κs. tt) (λ c. search needs) returns
+    (λ c κs. tt) (λ c κs. tt) (λ c κs. tt) (λ c κs. tt) (λ c. search needs) returns-2)

@@ -25,5 +25,5 @@ returns c =
     rw (text-is page (called .run .result) _ run) (c .before .before .write .ensures)
 
 pub try-page-spec : {M : Type 1} → statement M
-try-page-spec = tie.close (tie.spec (λ c. search needs) (λ c. search needs) (λ c. search needs)
-    (λ c. search needs) (λ c. search needs) (λ c. search needs) returns)
+try-page-spec = tie.close (tie.spec (λ c. search needs) (λ c. search needs) (λ c κs. tt)
+    (λ c κs. tt) (λ c κs. tt) (λ c. search needs) returns)
