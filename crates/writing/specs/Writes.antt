@@ -1,4 +1,4 @@
--- What an instruction writes, and the record afterwards: one place changes the record for every instruction.
+-- What an instruction writes, and the record afterwards. A branch writes nothing: it only moves the place.
 use Prim.Native.Nat.{ℕ}
 use mathlib.Core.List.{List}
 use lib.ListN.{set}
