@@ -2,12 +2,12 @@
 use Prim.Native.Nat.{ℕ}
 use mathlib.Core.Bool.{true, false}
 use Rattle.arm.specs.Sums.{addWithCarry}
-use Rattle.arm.specs.Shifts.{lslC, lsrC, asrC, rorC}
-use Rattle.arm.specs.Bitwise.{notWord}
+use Rattle.words.specs.Shifts.{lslC, lsrC, asrC, rorC}
+use Rattle.words.specs.Bitwise.{notWord}
 use Rattle.arm.specs.Flags.{withNZ, withNZC, withNZCV}
 use Rattle.arm.specs.declared.Flags.{Flags}
 use Rattle.arm.specs.declared.Sum.{Sum}
-use Rattle.arm.specs.declared.Shifted.{Shifted}
+use Rattle.words.specs.declared.Shifted.{Shifted}
 use Rattle.alu.specs.declared.Valued.{Valued}
 
 -- ---- a shift sets N, Z and C, a sum sets N, Z, C and V, a value by itself N and Z

@@ -2,8 +2,8 @@
 ghost use mathlib.Core.Path.{_≡_};
 ghost use Rattle.alu.specs.Operations as operations;
 use arm::Flags;
-use arm::Shifted;
 use arm::Sum;
+use words::Shifted;
 
 // A value, and the flags with it.
 pub struct Valued {
@@ -46,25 +46,25 @@ pub fn mov(x: u32, f: Flags) -> Valued
 pub fn lsl(x: u32, n: u8, f: Flags) -> Valued
     ensures { λ v. ⌜ v ≡ operations.lsl x n f ⌝ }
 {
-    shifted(arm::lsl_c(x, n, f.c), f)
+    shifted(words::lsl_c(x, n, f.c), f)
 }
 
 pub fn lsr(x: u32, n: u8, f: Flags) -> Valued
     ensures { λ v. ⌜ v ≡ operations.lsr x n f ⌝ }
 {
-    shifted(arm::lsr_c(x, n, f.c), f)
+    shifted(words::lsr_c(x, n, f.c), f)
 }
 
 pub fn asr(x: u32, n: u8, f: Flags) -> Valued
     ensures { λ v. ⌜ v ≡ operations.asr x n f ⌝ }
 {
-    shifted(arm::asr_c(x, n, f.c), f)
+    shifted(words::asr_c(x, n, f.c), f)
 }
 
 pub fn ror(x: u32, n: u8, f: Flags) -> Valued
     ensures { λ v. ⌜ v ≡ operations.ror x n f ⌝ }
 {
-    shifted(arm::ror_c(x, n, f.c), f)
+    shifted(words::ror_c(x, n, f.c), f)
 }
 
 // ---- sums

@@ -1,4 +1,1 @@
-pub mod Integers
 pub mod Sums
-pub mod Shifts
-pub mod Products

@@ -3,15 +3,15 @@ use mathlib.Core.Path.{_≡_, refl, sym, ap, _∙_}
 use mathlib.Core.Bool.{Bool, true, false, not, _&&_}
 use Prim.Native.Nat.{ℕ, suc, _+_, _-_, _*_, _/_, _%_, _^_, _<_, _≤_}
 use native.Mathlib.Decide.{decLt, ℕ-discrete}
+use native.Mathlib.Nat.{zero-mul, one-mul}
 use native.Mathlib.Omega.{arith}
 use lib.Dec.{leb, eqb}
 use lib.IntN.{pos, subℕ, _+ℤ_}
 use borrow.Author.Tests.{lt-leb, le-leb, eq-eqb, ne-eqb}
 use mir.Val.{boolByte}
 use Rattle.bits.specs.Integers.{SInt}
-use Rattle.laws.proofs.Differences.{less, more, of-pos, sum}
+use Rattle.laws.proofs.Differences.{less, more, minus, of-pos, sum}
 use Rattle.arm.specs.Sums.{UInt, eqZ}
-use Rattle.arm.proofs.Integers.{difference}
 
 -- ---- the carry
 
@@ -30,6 +30,13 @@ carry-is s = elim (decLt s (2 ^ 32)) [
 ]
 
 -- ---- overflow
+
+-- x, less 2 ^ n for its top bit
+difference : (n x : ℕ) → SInt n x ≡ subℕ x (x / 2 ^ (n - 1) % 2 * 2 ^ n)
+difference n x = elim (ℕ-discrete (x / 2 ^ (n - 1) % 2) 1) [
+  | yes e ↦ rw (e, one-mul) (minus x (2 ^ n))
+  | no e ↦ let z : x / 2 ^ (n - 1) % 2 ≡ 0 = omega arith in rw (z, zero-mul) (of-pos x)
+]
 
 same-test : (m n p q : ℕ) → (m ≡ n → p ≡ q) → (p ≡ q → m ≡ n) → eqb m n ≡ eqb p q
 same-test m n p q f g = elim (ℕ-discrete m n) [

@@ -4,7 +4,7 @@ use lib.Dec.{eqb}
 use Rattle.bits.specs.Fields.{bit}
 use Rattle.arm.specs.declared.Flags.{Flags}
 use Rattle.arm.specs.declared.Sum.{Sum}
-use Rattle.arm.specs.declared.Shifted.{Shifted}
+use Rattle.words.specs.declared.Shifted.{Shifted}
 
 abbrev pub withNZ : Flags → ℕ → Flags
 withNZ f x = record { n = bit x 31; z = eqb x 0; c = f .c; v = f .v }

@@ -1,6 +1,7 @@
 -- How far a branch goes.
 use mathlib.Core.Bool.{Bool, true, false, cond}
 use Prim.Native.Nat.{ℕ, zero, suc, _+_, _*_, _/_, _%_, _^_, _≤_, _<_}
+use native.Mathlib.Nat.{le-suc, mul-le-mul-left}
 use native.Mathlib.Decide.{decLt}
 use native.Mathlib.Omega.{arith}
 use lib.Dec.{eqb}
@@ -13,13 +14,13 @@ use Rattle.bits.proofs.Theorems.{sint-mag}
 use Rattle.branch.specs.Branches.{bundleAt, targetOf, Near}
 use Rattle.branch.specs.declared.Target.the-variants.{Bad, At}
 
-pub mag-double : (z : ℤ) → mag (pos 2 *ℤ z) ≤ 2 * mag z + 1
-mag-double (pos n) = omega arith
-mag-double (negsuc n) = by (2 * suc n) (omega arith)
+pub mag-times : (k : ℕ) (z : ℤ) → mag (pos k *ℤ z) ≤ k * suc (mag z)
+mag-times k (pos n) = mul-le-mul-left k (le-suc n)
+mag-times k (negsuc n) = by (k * suc n)
   where
-    by : (m : ℕ) → m ≤ 2 * n + 2 → mag (negℤ (pos m)) ≤ 2 * n + 1
-    by zero h = omega arith
-    by (suc m) h = omega arith
+    by : (m : ℕ) → mag (negℤ (pos m)) ≤ m
+    by zero = omega arith
+    by (suc m) = omega arith
 
 pub mag-sum : (a : ℕ) (z : ℤ) → mag (pos a +ℤ z) ≤ a + mag z
 mag-sum a (pos b) = omega arith
@@ -40,7 +41,7 @@ near-bundle (pos n) h = by (eqb (n % 4) 0)
 -- from a place of a page
 near : (place : ℕ) (z : ℤ) → place < 128 → mag z < 2 ^ 11 → Near (targetOf place z)
 near place z p h =
-    near-bundle (pos (2 * place + 4) +ℤ (pos 2 *ℤ z)) (omega (arith, mag-sum (2 * place + 4) (pos 2 *ℤ z), mag-double z))
+    near-bundle (pos (2 * place + 4) +ℤ (pos 2 *ℤ z)) (omega (arith, mag-sum (2 * place + 4) (pos 2 *ℤ z), mag-times 2 z))
 
 pub near-compare : (place imm6 : ℕ) → place < 128 → imm6 < 256 → Near (targetOf place (pos imm6))
 near-compare place imm6 p h = near place (pos imm6) p (omega arith)

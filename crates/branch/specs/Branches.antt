@@ -11,9 +11,12 @@ unfoldable pub bundleAt : ℤ → Target
 bundleAt (pos n) = cond (eqb (n % 4) 0) (At (n / 4)) Bad
 bundleAt (negsuc n) = Bad
 
--- PC plus the doubled offset, with PC = address + 4; the address of a place is its double
+-- the byte that a branch at a place goes to: PC plus the doubled offset, with PC = address + 4; the address of a place is its double
+abbrev pub targetByte : ℕ → ℤ → ℤ
+targetByte place offset = pos (2 * place + 4) +ℤ (pos 2 *ℤ offset)
+
 abbrev pub targetOf : ℕ → ℤ → Target
-targetOf place offset = bundleAt (pos (2 * place + 4) +ℤ (pos 2 *ℤ offset))
+targetOf place offset = bundleAt (targetByte place offset)
 
 -- the target's place is a number of 16 bits
 abbrev pub Near : Target → Type 0

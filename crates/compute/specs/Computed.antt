@@ -6,9 +6,9 @@ use lib.Bits.{bitAnd, bitOr, bitXor}
 use Rattle.bits.specs.Fields.{bits}
 use Rattle.isa.specs.declared.Operation.{Operation}
 use Rattle.isa.specs.declared.Operation.the-variants.{LslImm, LsrImm, AsrImm, AddReg, SubReg, AddImm3, SubImm3, MovImm, CmpImm, AddImm, SubImm, And, Eor, LslReg, LsrReg, AsrReg, Adc, Sbc, RorReg, Tst, Rsb, CmpReg, Cmn, Orr, Mul, Bic, Mvn, MovReg, AddSp, Sxth, Sxtb, Uxth, Uxtb, Nop, Movw, Movt, Sdiv, Udiv}
-use Rattle.arm.specs.Shifts.{immediateAmount}
-use Rattle.arm.specs.Products.{product, unsignedQuotient, signedQuotient}
-use Rattle.arm.specs.Bitwise.{notWord, signExtended}
+use Rattle.words.specs.Shifts.{immediateAmount}
+use Rattle.words.specs.Products.{product, unsignedQuotient, signedQuotient}
+use Rattle.words.specs.Bitwise.{notWord, signExtended}
 use Rattle.arm.specs.declared.Flags.{Flags}
 use Rattle.alu.specs.Operations.{mov, lsl, lsr, asr, ror, add, sub, adc, sbc, rsb}
 use Rattle.alu.specs.declared.Valued.{Valued}

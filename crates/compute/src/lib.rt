@@ -4,9 +4,9 @@ ghost use Rattle.state.specs.Record.{registerIn};
 ghost use Rattle.compute.specs.Computed as definitions;
 use alu::Valued;
 use arm::Flags;
-use arm::immediate_amount;
 use isa::Operation;
 use std::num::wrapping_add_u32;
+use words::immediate_amount;
 use writing::Write;
 
 // One register at most, and the flags.
@@ -92,32 +92,32 @@ pub fn compute(operation: Operation, regs: &[u32], sp: u32, f: Flags) -> Compute
         Operation::CmpImm(n, imm8) => flags_only(alu::sub(at(regs, n), imm8 as u32)),
         Operation::AddImm(d, imm8) => to(d, alu::add(at(regs, d), imm8 as u32)),
         Operation::SubImm(d, imm8) => to(d, alu::sub(at(regs, d), imm8 as u32)),
-        Operation::And(m, d) => to(d, alu::mov(arm::and(at(regs, d), at(regs, m)), f)),
-        Operation::Eor(m, d) => to(d, alu::mov(arm::eor(at(regs, d), at(regs, m)), f)),
+        Operation::And(m, d) => to(d, alu::mov(words::and(at(regs, d), at(regs, m)), f)),
+        Operation::Eor(m, d) => to(d, alu::mov(words::eor(at(regs, d), at(regs, m)), f)),
         Operation::LslReg(m, d) => to(d, alu::lsl(at(regs, d), low_byte(at(regs, m)), f)),
         Operation::LsrReg(m, d) => to(d, alu::lsr(at(regs, d), low_byte(at(regs, m)), f)),
         Operation::AsrReg(m, d) => to(d, alu::asr(at(regs, d), low_byte(at(regs, m)), f)),
         Operation::Adc(m, d) => to(d, alu::adc(at(regs, d), at(regs, m), f)),
         Operation::Sbc(m, d) => to(d, alu::sbc(at(regs, d), at(regs, m), f)),
         Operation::RorReg(m, d) => to(d, alu::ror(at(regs, d), low_byte(at(regs, m)), f)),
-        Operation::Tst(m, n) => flags_only(alu::mov(arm::and(at(regs, n), at(regs, m)), f)),
+        Operation::Tst(m, n) => flags_only(alu::mov(words::and(at(regs, n), at(regs, m)), f)),
         Operation::Rsb(n, d) => to(d, alu::rsb(at(regs, n))),
         Operation::CmpReg(m, n) => flags_only(alu::sub(at(regs, n), at(regs, m))),
         Operation::Cmn(m, n) => flags_only(alu::add(at(regs, n), at(regs, m))),
-        Operation::Orr(m, d) => to(d, alu::mov(arm::orr(at(regs, d), at(regs, m)), f)),
-        Operation::Mul(n, d) => to(d, alu::mov(arm::mul(at(regs, n), at(regs, d)), f)),
-        Operation::Bic(m, d) => to(d, alu::mov(arm::bic(at(regs, d), at(regs, m)), f)),
-        Operation::Mvn(m, d) => to(d, alu::mov(arm::mvn(at(regs, m)), f)),
+        Operation::Orr(m, d) => to(d, alu::mov(words::orr(at(regs, d), at(regs, m)), f)),
+        Operation::Mul(n, d) => to(d, alu::mov(words::mul(at(regs, n), at(regs, d)), f)),
+        Operation::Bic(m, d) => to(d, alu::mov(words::bic(at(regs, d), at(regs, m)), f)),
+        Operation::Mvn(m, d) => to(d, alu::mov(words::mvn(at(regs, m)), f)),
         Operation::MovReg(m, d) => moved(d, at(regs, m), f),
         Operation::AddSp(d, imm8) => moved(d, wrapping_add_u32(sp, 4 * (imm8 as u32)), f),
-        Operation::Sxth(m, d) => moved(d, arm::sxth(at(regs, m)), f),
-        Operation::Sxtb(m, d) => moved(d, arm::sxtb(at(regs, m)), f),
-        Operation::Uxth(m, d) => moved(d, arm::uxth(at(regs, m)), f),
-        Operation::Uxtb(m, d) => moved(d, arm::uxtb(at(regs, m)), f),
+        Operation::Sxth(m, d) => moved(d, words::sxth(at(regs, m)), f),
+        Operation::Sxtb(m, d) => moved(d, words::sxtb(at(regs, m)), f),
+        Operation::Uxth(m, d) => moved(d, words::uxth(at(regs, m)), f),
+        Operation::Uxtb(m, d) => moved(d, words::uxtb(at(regs, m)), f),
         Operation::Nop => unchanged(f),
         Operation::Movw(imm16, d) => moved(d, imm16 as u32, f),
         Operation::Movt(imm16, d) => moved(d, with_upper(at(regs, d), imm16), f),
-        Operation::Sdiv(n, d, m) => moved(d, arm::sdiv(at(regs, n), at(regs, m)), f),
-        Operation::Udiv(n, d, m) => moved(d, arm::udiv(at(regs, n), at(regs, m)), f),
+        Operation::Sdiv(n, d, m) => moved(d, words::sdiv(at(regs, n), at(regs, m)), f),
+        Operation::Udiv(n, d, m) => moved(d, words::udiv(at(regs, n), at(regs, m)), f),
     }
 }

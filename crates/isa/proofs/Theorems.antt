@@ -1,9 +1,9 @@
 -- No halfword, and no pair of halfwords, matches two rows; and how many are listed.
-use mathlib.Core.Path.{_≡_, refl, sym}
+use mathlib.Core.Path.{_≡_, refl, sym, ap, _∙_}
 use mathlib.Core.Bool.{Bool, true, false, not, _&&_, _||_, true≢false}
 use mathlib.Core.Logic.{⊎-elim}
 use mathlib.Core.List.{List, [], _∷_}
-use Prim.Native.Nat.{ℕ, zero, suc, _≤_, _<_}
+use Prim.Native.Nat.{ℕ, zero, suc, _+_, _^_, _≤_, _<_}
 use native.Mathlib.Nat.{le-of-suc-le-suc, not-suc-le-zero}
 use lib.Dec.{eqb}
 use lib.ListN.{length}
@@ -15,7 +15,8 @@ use Rattle.isa.specs.Patterns.{Bit, agrees, matches}
 use Rattle.isa.specs.ListedEncodings.{Row, row, decodeBy, listed16, listed32}
 use Rattle.isa.specs.declared.Instruction.{Instruction}
 use Rattle.isa.specs.declared.Instruction.the-variants.{Unlisted}
-use Rattle.isa.specs.Rows.{patternAt, numberIn, matchesAny}
+use Rattle.isa.specs.Rows.{patternAt, matchesAny, countBelow}
+use Rattle.isa.proofs.Counting.{none, one-of, wordsMatching, words}
 
 abbrev pub meaningAt : List Row → ℕ → ℕ → Instruction
 meaningAt [] k w = Unlisted
@@ -106,11 +107,35 @@ found (row p f ∷ rows) a w (suc k) h m =
 
 -- ---- how many
 
-pub number16 : numberIn listed16 ≡ 32826
-number16 = refl
+-- the words of each row, added up
+abbrev pub sumOver : List Row → ℕ
+sumOver [] = 0
+sumOver (row p m ∷ rows) = wordsMatching p + sumOver rows
 
-pub number32 : numberIn listed32 ≡ 1475584
-number32 = refl
+-- each pattern has n bits
+abbrev pub ofLength : ℕ → List Row → Bool
+ofLength n [] = true
+ofLength n (row p m ∷ rows) = eqb (length p) n && ofLength n rows
+
+no-other : (p : List Bit) (rows : List Row) → clear p rows ≡ true → (w : ℕ) → matches p w ≡ true → matchesAny rows w ≡ false
+no-other p [] c w m = refl
+no-other p (row q f ∷ rows) c w m =
+    let d = both (conflict p q) (clear p rows) c in
+    rw (fails (conflicting p q w (d .0) m), no-other p rows (d .1) w m)
+
+pub counted : (n : ℕ) (rows : List Row) → apart rows ≡ true → ofLength n rows ≡ true → countBelow (matchesAny rows) (2 ^ n) ≡ sumOver rows
+counted n [] a l = none (2 ^ n)
+counted n (row p m ∷ rows) a l =
+    let d = both (clear p rows) (apart rows) a in
+    let k = both (eqb (length p) n) (ofLength n rows) l in
+    let e : countBelow (matches p) (2 ^ n) ≡ wordsMatching p = ap (λ (i : ℕ). countBelow (matches p) (2 ^ i)) (sym (eqb-true (length p) n (k .0))) ∙ words p in
+    one-of (matches p) (matchesAny rows) (2 ^ n) (no-other p rows (d .0)) ∙ rw (e, counted n rows (d .1) (k .1))
+
+pub number16 : countBelow (matchesAny listed16) (2 ^ 16) ≡ 32826
+number16 = counted 16 listed16 apart16 refl
+
+pub number32 : countBelow (matchesAny listed32) (2 ^ 32) ≡ 1475584
+number32 = counted 32 listed32 apart32 refl
 
 -- ---- the ruling on 1101xxxx: DExx is undefined in the manual, and no row matches it
 

@@ -13,7 +13,7 @@ use Rattle.isa.specs.ListedEncodings.{Row, row, decodeBy, lines16, listed16, de
 use Rattle.isa16.specs.Classes.{begins, classOf}
 use Rattle.laws.proofs.Tests.{both, either, equal-tests}
 use Rattle.isa.proofs.Theorems.{found, apart16, meaningAt}
-use Rattle.isa.specs.Rows.{patternAt}
+use Rattle.isa.specs.Rows.{patternAt, matchesAny}
 use Rattle.isa.specs.declared.Instruction.{Instruction}
 use Rattle.isa.specs.declared.Instruction.the-variants.{Unlisted}
 use Rattle.laws.proofs.Runs.{every, run, NoneOf, isIn, no-key}
@@ -28,13 +28,14 @@ in-run k i n e t l u = eqb-true k (classOf t) (run (λ m. eqb k (classOf m)) i n
 
 -- bytes of a run that are no key of the two matches
 pub no-line : (singles fives : List (List ℕ)) (i n : ℕ)
-    → every (λ t. isIn singles t || (isIn fives (t / 8) || eqb 24 (classOf t))) i n ≡ true
-    → (t : ℕ) → i ≤ t → t < i + n → NoneOf singles t → NoneOf fives (t / 8) → 24 ≡ classOf t
-no-line singles fives i n e t l u s f =
+    → every (λ t. isIn singles t || (isIn fives (t / 2 ^ 3 % 2 ^ 5) || eqb 24 (classOf t))) i n ≡ true
+    → (t : ℕ) → i ≤ t → t < i + n → NoneOf singles t → {five : ℕ} → five ≡ t / 2 ^ 3 % 2 ^ 5 → NoneOf fives five → 24 ≡ classOf t
+no-line singles fives i n e t l u s {five} f g =
+    let top = t / 2 ^ 3 % 2 ^ 5 in
     ⊎-elim
     (λ k. absurd (no-key singles t s k))
-    (λ k. ⊎-elim (λ h. absurd (no-key fives (t / 8) f h)) (λ h. eqb-true 24 (classOf t) h) (either (isIn fives (t / 8)) (eqb 24 (classOf t)) k))
-    (either (isIn singles t) (isIn fives (t / 8) || eqb 24 (classOf t)) (run (λ t. isIn singles t || (isIn fives (t / 8) || eqb 24 (classOf t))) i n e t l u))
+    (λ k. ⊎-elim (λ h. absurd (no-key fives five g (rw f h))) (λ h. eqb-true 24 (classOf t) h) (either (isIn fives top) (eqb 24 (classOf t)) k))
+    (either (isIn singles t) (isIn fives top || eqb 24 (classOf t)) (run (λ t. isIn singles t || (isIn fives (t / 2 ^ 3 % 2 ^ 5) || eqb 24 (classOf t))) i n e t l u))
 
 -- ---- from the class to the row
 
@@ -95,30 +96,25 @@ by-ten k v e w h =
     let c = both (eqb (length (drop 10 p)) 6) (matches (take 10 p) v) (b .1) in
     sym (found listed16 apart16 w k (ltb-true k 50 (a .0)) (prefix 10 p w (b .0) ∙ rw (eqb-true (length (drop 10 p)) 6 (c .0), h) (c .1)))
 
--- some row matches
-abbrev pub any : List Row → ℕ → Bool
-any [] w = false
-any (row p m ∷ rows) w = matches p w || any rows w
-
 abbrev pub Means : (ℕ → Instruction) → List Row → Type 0
 Means m [] = Unit {0}
 Means m (row p f ∷ rows) = (f ≡ m) × Means m rows
 
-means : (m : ℕ → Instruction) (rows : List Row) → Means m rows → (w : ℕ) → decodeBy rows w ≡ cond (any rows w) (m w) Unlisted
+means : (m : ℕ → Instruction) (rows : List Row) → Means m rows → (w : ℕ) → decodeBy rows w ≡ cond (matchesAny rows w) (m w) Unlisted
 unfolding decodeBy
 means m [] a w = refl
 means m (row p f ∷ rows) a w = go (means m rows (a .1) w) (matches p w)
   where
-    go : decodeBy rows w ≡ cond (any rows w) (m w) Unlisted → (t : Bool) → cond t (f w) (decodeBy rows w) ≡ cond (t || any rows w) (m w) Unlisted
+    go : decodeBy rows w ≡ cond (matchesAny rows w) (m w) Unlisted → (t : Bool) → cond t (f w) (decodeBy rows w) ≡ cond (t || matchesAny rows w) (m w) Unlisted
     go later true = ap (λ (g : ℕ → Instruction). g w) (a .0)
     go later false = later
 
 -- a low byte of a run, under one top byte: listed or not
 pub by-low : (top k : ℕ) → k ≡ classOf top → (m : ℕ → Instruction) → Means m (lineAt lines16 k) → (b : Bool) (i n : ℕ)
-    → every (λ l. Bool·beq (any (lineAt lines16 k) (top * 2 ^ 8 + l)) b) i n ≡ true
+    → every (λ l. Bool·beq (matchesAny (lineAt lines16 k) (top * 2 ^ 8 + l)) b) i n ≡ true
     → (w : ℕ) → w / 2 ^ 8 ≡ top → i ≤ w % 2 ^ 8 → w % 2 ^ 8 < i + n → cond b (m w) Unlisted ≡ decode16Of w
 by-low top k c m a b i n e w h l u =
     let whole : top * 2 ^ 8 + w % 2 ^ 8 ≡ w = omega arith in
-    let t : any (lineAt lines16 k) w ≡ b =
-    equal-tests _ b (rw whole at (run (λ l. Bool·beq (any (lineAt lines16 k) (top * 2 ^ 8 + l)) b) i n e (w % 2 ^ 8) l u)) in
+    let t : matchesAny (lineAt lines16 k) w ≡ b =
+    equal-tests _ b (rw whole at (run (λ l. Bool·beq (matchesAny (lineAt lines16 k) (top * 2 ^ 8 + l)) b) i n e (w % 2 ^ 8) l u)) in
     sym (class-row w ∙ rw (h, ← c) (means m (lineAt lines16 k) a w ∙ ap (λ (s : Bool). cond s (m w) Unlisted) t))

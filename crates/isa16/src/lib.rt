@@ -24,7 +24,7 @@ struct Operands {
 fn class(t: u8) -> u8
     ensures { λ r. ⌜ r ≡ classOf t ⌝ }
 {
-    let five = t / 8;
+    let five = bits::field(t as u32, 3, 5);
     match t {
         0x18 | 0x19 => 3,
         0x1A | 0x1B => 4,

@@ -15,15 +15,16 @@ use mir.Syntax.{w64}
 use mir.Val.{toZ, ofZ}
 use Rattle.laws.proofs.Integers.{read}
 use Rattle.bits.specs.Integers.{SInt, lowWord}
-use Rattle.arm.specs.Bitwise.{signExtended}
+use Rattle.words.specs.Bitwise.{signExtended}
 use Rattle.endian.specs.LittleEndian.{widthOf}
 use Rattle.endian.proofs.Theorems.{width-le}
 use Rattle.endian.specs.declared.Size.{Size}
 
 -- ---- an edge, tested by the last place that fits
 
-pub inside : (edge at width : ℕ) (size : Size) → 4 ≤ edge → width ≡ widthOf size → at ≤ edge - width → leb (at + widthOf size) edge ≡ true
-inside edge at width size k e l = le-leb (at + widthOf size) edge (omega (arith, width-le size))
+-- whatever the code tests against, if it is no further than the edge
+pub inside : (edge limit at width : ℕ) (size : Size) → 4 ≤ limit → limit ≤ edge → width ≡ widthOf size → at ≤ limit - width → leb (at + widthOf size) edge ≡ true
+inside edge limit at width size k m e l = le-leb (at + widthOf size) edge (omega (arith, width-le size))
 
 pub past : (edge at width : ℕ) (size : Size) → width ≡ widthOf size → edge - width < at → leb (at + widthOf size) edge ≡ false
 past edge at width size e l = lt-leb (at + widthOf size) edge (omega (arith, width-le size))

@@ -4,7 +4,7 @@ use mathlib.Core.Bool.{Bool, cond}
 use mathlib.Core.List.{List}
 use lib.Dec.{leb}
 use lib.ListN.{take, drop}
-use Rattle.arm.specs.Bitwise.{signExtended}
+use Rattle.words.specs.Bitwise.{signExtended}
 use Rattle.endian.specs.LittleEndian.{widthOf, loadLE, storeLE}
 use Rattle.endian.specs.declared.Size.{Size}
 use Rattle.state.specs.declared.Base.{Base}

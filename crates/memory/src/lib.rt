@@ -1,7 +1,7 @@
 // Loads and stores: RAM, the external page, and by a base.
 ghost use mathlib.Core.Path.{_≡_};
 ghost use Prim.Native.Nat.{min, _*_, _%_, _^_};
-ghost use Rattle.arm.specs.Bitwise.{signExtended};
+ghost use Rattle.words.specs.Bitwise.{signExtended};
 ghost use Rattle.endian.specs.LittleEndian.{widthOf};
 ghost use Rattle.memory.specs.Faults.{faultNumber};
 ghost use Rattle.memory.specs.Memory.{ramLoaded, ramStored, ramAfter, externalLoaded, loadedBy, storedBy, afterStoreBy, signedLoaded};

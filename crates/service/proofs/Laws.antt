@@ -1,4 +1,4 @@
--- A bit of a word, read as a field of one bit.
+-- A bit of a word, read as a field of one bit; and the parts of the 24 bits that operations 4 and 5 take.
 use mathlib.Core.Path.{_≡_}
 use mathlib.Core.Bool.{true, false, cond}
 use Prim.Native.Nat.{ℕ, zero, suc, _*_, _/_, _%_, _^_, _<_}
@@ -21,3 +21,10 @@ module _ (w n : ℕ) {b : ℕ} (reads : b ≡ w / 2 ^ n % 2 ^ 1) where
 
   pub times : (x : ℕ) → x * b ≡ cond (bit w n) x 0
   times x = rw (← reads) (times-bit x b (omega arith))
+
+module _ (w : ℕ) {a : ℕ} (reads : a ≡ w / 2 ^ 0 % 2 ^ 24) where
+  pub register : {r : ℕ} → r ≡ a / 2 ^ 21 % 2 ^ 3 → r ≡ a / 2 ^ 21
+  register e = omega arith
+
+  pub bytes : {b : ℕ} → b ≡ a / 2 ^ 0 % 2 ^ 21 → b ≡ a % 2 ^ 21
+  bytes e = omega arith

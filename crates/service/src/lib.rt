@@ -104,12 +104,12 @@ fn address_operation(w: u32) -> Service
             Service::Bad
         },
         4 => if external == 0 {
-            Service::StoreAtSp((a / 0x20_0000) as u8, a % 0x20_0000)
+            Service::StoreAtSp(bits::field(a, 21, 3) as u8, bits::field(a, 0, 21))
         } else {
             Service::Bad
         },
         5 => if external == 0 {
-            Service::LoadAtSp((a / 0x20_0000) as u8, a % 0x20_0000)
+            Service::LoadAtSp(bits::field(a, 21, 3) as u8, bits::field(a, 0, 21))
         } else {
             Service::Bad
         },
@@ -145,7 +145,8 @@ fn by_literal(page: &[u8], n: u8) -> Service
 pub fn service_of(page: &[u8], n: u8) -> Service
     ensures { λ r. ⌜ r ≡ serviceOf (now (page .entry)) n ⌝ }
 {
-    let register = n % 8;
+    let w = n as u32;
+    let register = bits::field(w, 0, 3) as u8;
     if n <= 0x00 {
         return Service::Return;
     }
@@ -153,10 +154,10 @@ pub fn service_of(page: &[u8], n: u8) -> Service
         return by_literal(page, n);
     }
     if n <= 0xBF {
-        return Service::DirectSyscall(n % 64);
+        return Service::DirectSyscall(bits::field(w, 0, 6) as u8);
     }
     if n <= 0xDF {
-        return Service::LowerSp((n % 32) as u32);
+        return Service::LowerSp(bits::field(w, 0, 5));
     }
     if n <= 0xE7 {
         return Service::Validate(register);

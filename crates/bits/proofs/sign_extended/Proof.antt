@@ -21,7 +21,7 @@ signed-requires : tie.Need-signed-requires
 signed-requires c κs =
     let a = c .before .before .before .args in
     let e : suc (a .n - 1) ≡ a .n = omega arith in
-    (omega arith, rw (c .field .ensures, e, div-one (a .x)) (mod-lt (a .x) (pow-pos (a .n))))
+    (omega arith, rw (c .field .ensures, e) (mod-lt _ (pow-pos (a .n))))
 
 returns-3 : tie.Need-returns-3
 returns-3 c =

@@ -1,5 +1,6 @@
 use mathlib.Core.Path.{_∙_, sym}
 use native.Mathlib.Omega.{arith}
+use lib.Dec.{lit<}
 use mir.Syntax.{w64}
 use mir.ValLaws.{toZ-pos, toZ-ofZ}
 use Rattle.bits.proofs.Integers.{small, less-whole, less-fits, with-top, without-top}
@@ -10,7 +11,7 @@ use Rattle.bits.proofs.signed.Tie as tie
 sub-result : tie.Need-sub-result
 sub-result c =
     let s = c .before .before in
-    rw (less-whole (s .args .x) (s .args .top) (s .pre .0) (s .pre .1)) (less-fits (s .args .x) (s .args .top) (s .pre .0) (s .pre .1))
+    less-fits (s .args .x) _ (s .args .top) (omega arith) (s .pre .0) (lit< tt)
 
 returns : tie.Need-returns
 returns c =

@@ -3,12 +3,12 @@ use Prim.Native.Nat.{_^_}
 use native.Mathlib.Omega.{arith}
 use lib.IntN.{ℤ, pos, natAbs, _+ℤ_}
 use lib.Signed.{nonNeg}
-use lib.Dec.{T}
+use lib.Dec.{T, lit<}
 use mir.Syntax.{w32, w64}
-use mir.Val.{toZ, ofZ, SFits, Fits}
+use mir.Val.{toZ, ofZ, Fits}
 use mir.ValLaws.{toZ-ofZ}
 use Rattle.bits.specs.Integers.{lowWord}
-use Rattle.bits.proofs.Integers.{low-lt, low-neg, low-pos}
+use Rattle.bits.proofs.Integers.{low-lt, more-fits, low-neg, low-pos}
 use Rattle.bits.proofs.wrapped.Statement.{statement}
 use Rattle.bits.proofs.wrapped.Tie as tie
 
@@ -26,7 +26,7 @@ abbrev Word : ℤ → Type 0
 Word z = T (nonNeg z) × Fits w32 (natAbs z)
 
 add-result : tie.Need-add-result
-add-result c = subst⁻¹ (SFits w64) (sum c) (record { sfits = omega (arith, low-lt (c .before .args .z)) })
+add-result c = rw (read (c .before)) (more-fits (c .before .args .z) _ (c .before .pre) (lit< tt))
 
 sum-read : (c : tie.Then1) → toZ w64 (ofZ w64 (toZ w64 (ofZ w64 (c .before .args .z)) +ℤ pos (2 ^ 32))) ≡ pos (lowWord (c .before .args .z))
 sum-read c = toZ-ofZ w64 _ (add-result c) ∙ sum c

@@ -1,4 +1,5 @@
 use native.Mathlib.Omega.{arith}
+use lib.Dec.{lit≤}
 use Rattle.endian.proofs.Theorems.{width-le}
 use Rattle.memory.specs.Memory.{externalLoaded, externalPage}
 use Rattle.memory.proofs.Laws.{inside, past, clipped}
@@ -26,7 +27,7 @@ unfolding externalLoaded externalPage
 returns c =
     let l = c .before .before .before .before in
     rw (
-      inside 256 _ _ _ (omega arith) (c .before .before .before .width .ensures) (c .before .before .if1 .taken),
+      inside 256 _ _ _ _ (lit≤ tt) (lit≤ tt) (c .before .before .before .width .ensures) (c .before .before .if1 .taken),
       ← clipped 256 _ _ _ _ (l .before .least .ensures) (l .least2 .ensures),
       c .load .ensures,
     )

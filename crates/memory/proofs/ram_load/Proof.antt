@@ -1,4 +1,5 @@
 use native.Mathlib.Omega.{arith}
+use lib.Dec.{lit≤}
 use Rattle.endian.proofs.Theorems.{width-le}
 use Rattle.memory.specs.Memory.{ramLoaded}
 use Rattle.memory.proofs.Laws.{inside, past}
@@ -17,7 +18,7 @@ load-requires c κs = tt
 
 returns : tie.Need-returns
 unfolding ramLoaded
-returns c = rw (inside 32768 _ _ _ (omega arith) (c .before .before .width .ensures) (c .before .if1 .taken), c .load .ensures)
+returns c = rw (inside 32768 _ _ _ _ (lit≤ tt) (lit≤ tt) (c .before .before .width .ensures) (c .before .if1 .taken), c .load .ensures)
 
 returns-2 : tie.Need-returns-2
 unfolding ramLoaded

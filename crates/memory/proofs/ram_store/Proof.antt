@@ -1,5 +1,6 @@
 use mathlib.Core.Path.{refl}
 use native.Mathlib.Omega.{arith}
+use lib.Dec.{lit≤}
 use Rattle.endian.proofs.Theorems.{width-le}
 use Rattle.memory.specs.Memory.{ramStored, ramAfter}
 use Rattle.memory.proofs.Laws.{inside, past}
@@ -18,7 +19,7 @@ store-requires c κs = tt
 
 returns : tie.Need-returns
 unfolding ramStored ramAfter
-returns c = rw (inside 32768 _ _ _ (omega arith) (c .before .before .before .before .before .width .ensures) (c .before .before .before .before .if1 .taken)) (refl, c .before .before .store .ensures)
+returns c = rw (inside 32768 _ _ _ _ (lit≤ tt) (lit≤ tt) (c .before .before .before .before .before .width .ensures) (c .before .before .before .before .if1 .taken)) (refl, c .before .before .store .ensures)
 
 returns-2 : tie.Need-returns-2
 unfolding ramStored ramAfter

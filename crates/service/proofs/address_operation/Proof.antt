@@ -6,7 +6,7 @@ use Rattle.laws.proofs.Runs.{past}
 use Rattle.service.specs.declared.Service.{Service}
 use Rattle.service.specs.declared.Service.the-variants.{Bad}
 use Rattle.service.specs.Services.{operations, addressOperationOf}
-use Rattle.service.proofs.Laws.{clear, set, times}
+use Rattle.service.proofs.Laws.{clear, set, times, register, bytes}
 use borrow.Author.Needs.{needs}
 use Rattle.service.proofs.address_operation.Statement.{statement}
 use Rattle.service.proofs.address_operation.Tie as tie
@@ -46,10 +46,13 @@ returns-5 c =
 
 returns-6 : tie.Need-returns-6
 returns-6 c =
+    let a = c .before .before .before .before in
     rw (
-      by-fields (c .before .before),
-      c .before .match .keys5,
-      clear _ 29 (c .before .before .before .before .field .ensures) (c .if2 .taken),
+      by-fields a,
+      c .before .before .before .match .keys5,
+      clear _ 29 (a .before .before .field .ensures) (c .before .before .if2 .taken),
+      register _ (a .field3 .ensures) (c .before .field4 .ensures),
+      bytes _ (a .field3 .ensures) (c .field5 .ensures),
     )
 
 returns-7 : tie.Need-returns-7
@@ -62,10 +65,13 @@ returns-7 c =
 
 returns-8 : tie.Need-returns-8
 returns-8 c =
+    let a = c .before .before .before .before in
     rw (
-      by-fields (c .before .before),
-      c .before .match .keys6,
-      clear _ 29 (c .before .before .before .before .field .ensures) (c .if3 .taken),
+      by-fields a,
+      c .before .before .before .match .keys6,
+      clear _ 29 (a .before .before .field .ensures) (c .before .before .if3 .taken),
+      register _ (a .field3 .ensures) (c .before .field6 .ensures),
+      bytes _ (a .field3 .ensures) (c .field7 .ensures),
     )
 
 returns-9 : tie.Need-returns-9
@@ -81,5 +87,6 @@ returns-10 c = sym (by-fields (c .before) ∙ List·getD-eq-default (listed (c .
 
 pub address-operation-spec : {M : Type 1} → statement M
 address-operation-spec = tie.close (tie.spec (λ c κs. tt) (λ c κs. tt) (λ c κs. tt)
-    (λ c. search needs) (λ c. search needs) (λ c. search needs) (λ c. search needs) returns
+    (λ c. search needs) (λ c. search needs) (λ c κs. tt) (λ c. search needs) (λ c κs. tt)
+    (λ c κs. tt) (λ c. search needs) (λ c κs. tt) returns
     returns-2 returns-3 returns-4 returns-5 returns-6 returns-7 returns-8 returns-9 returns-10)

@@ -1,4 +1,3 @@
-use native.Mathlib.Nat.{div-one}
 use borrow.Author.Tests.{le-leb, lt-leb}
 use Rattle.service.specs.Services.{serviceOf}
 use borrow.Author.Needs.{needs}
@@ -22,21 +21,21 @@ returns-3 : tie.Need-returns-3
 unfolding serviceOf
 returns-3 c =
     rw (
-      lt-leb _ _ (c .before .before .if1 .left),
-      lt-leb _ _ (c .before .if2 .left),
-      le-leb _ _ (c .if3 .taken),
-      div-one,
+      lt-leb _ _ (c .before .before .before .if1 .left),
+      lt-leb _ _ (c .before .before .if2 .left),
+      le-leb _ _ (c .before .if3 .taken),
+      c .field2 .ensures,
     )
 
 returns-4 : tie.Need-returns-4
 unfolding serviceOf
 returns-4 c =
     rw (
-      lt-leb _ _ (c .before .before .before .if1 .left),
-      lt-leb _ _ (c .before .before .if2 .left),
-      lt-leb _ _ (c .before .if3 .left),
-      le-leb _ _ (c .if4 .taken),
-      div-one,
+      lt-leb _ _ (c .before .before .before .before .if1 .left),
+      lt-leb _ _ (c .before .before .before .if2 .left),
+      lt-leb _ _ (c .before .before .if3 .left),
+      le-leb _ _ (c .before .if4 .taken),
+      c .field3 .ensures,
     )
 
 returns-5 : tie.Need-returns-5
@@ -48,7 +47,7 @@ returns-5 c =
       lt-leb _ _ (c .before .before .if3 .left),
       lt-leb _ _ (c .before .if4 .left),
       le-leb _ _ (c .if5 .taken),
-      div-one,
+      c .before .before .before .before .before .field .ensures,
     )
 
 returns-6 : tie.Need-returns-6
@@ -88,7 +87,7 @@ returns-8 c =
       lt-leb _ _ (c .before .before .if6 .left),
       lt-leb _ _ (c .before .if7 .left),
       le-leb _ _ (c .if8 .taken),
-      div-one,
+      c .before .before .before .before .before .before .before .before .field .ensures,
     )
 
 returns-9 : tie.Need-returns-9
@@ -103,9 +102,10 @@ returns-9 c =
       lt-leb _ _ (c .before .before .if6 .left),
       lt-leb _ _ (c .before .if7 .left),
       lt-leb _ _ (c .if8 .left),
-      div-one,
+      c .before .before .before .before .before .before .before .before .field .ensures,
     )
 
 pub service-of-spec : {M : Type 1} → statement M
-service-of-spec = tie.close (tie.spec returns (λ c κs. tt) returns-2 returns-3 (λ c. search needs)
-    returns-4 returns-5 returns-6 returns-7 returns-8 returns-9)
+service-of-spec = tie.close (tie.spec (λ c κs. tt) (λ c. search needs) returns (λ c κs. tt) returns-2
+    (λ c κs. tt) (λ c. search needs) returns-3 (λ c κs. tt) returns-4 returns-5 returns-6 returns-7
+    returns-8 returns-9)
