@@ -1,12 +1,14 @@
 // What a step and a run refuse.
 ghost use mathlib.Core.Path.{_≡_};
-ghost use Rattle.admission.specs.RunRefusals.{runVerdict};
+ghost use Rattle.refusal.specs.Refusals.{decision, decisionOf};
+ghost use Rattle.admission.specs.RunRefusals.{areaRules, recordRules, runDecision};
 use refusal::Refusal;
 use refusal::Verdict;
 use state::Record;
 
-pub fn verdict_of(page: &[u8], ram: &[u8], external: &[u8], r: Record) -> Verdict
-    ensures { λ v. ⌜ v ≡ runVerdict (now (page .entry)) (now (external .entry)) r (now (ram .entry)) ⌝ }
+// What is lent has its lengths.
+pub fn of_areas(page: &[u8], ram: &[u8], external: &[u8]) -> Verdict
+    ensures { λ v. ⌜ decisionOf v ≡ decision (areaRules (now (page .entry)) (now (external .entry)) (now (ram .entry))) ⌝ }
 {
     if !page::fits(page) {
         return Verdict::Refused(Refusal::PageLength);
@@ -17,6 +19,13 @@ pub fn verdict_of(page: &[u8], ram: &[u8], external: &[u8], r: Record) -> Verdic
     if !state::external_fits(external) {
         return Verdict::Refused(Refusal::ExternalLength);
     }
+    Verdict::Accepted
+}
+
+// The record is fit, and so is its place.
+fn of_record(page: &[u8], external: &[u8], r: Record) -> Verdict
+    ensures { λ v. ⌜ decisionOf v ≡ decision (recordRules (now (page .entry)) (now (external .entry)) r) ⌝ }
+{
     if !state::is_fit(r, external.len()) {
         return Verdict::Refused(Refusal::UnfitRecord);
     }
@@ -24,4 +33,14 @@ pub fn verdict_of(page: &[u8], ram: &[u8], external: &[u8], r: Record) -> Verdic
         return Verdict::Refused(Refusal::UnfitPlace);
     }
     Verdict::Accepted
+}
+
+pub fn verdict_of(page: &[u8], ram: &[u8], external: &[u8], r: Record) -> Verdict
+    ensures { λ v. ⌜ decisionOf v ≡ runDecision (now (page .entry)) (now (external .entry)) r (now (ram .entry)) ⌝ }
+{
+    let areas = of_areas(page, ram, external);
+    match areas {
+        Verdict::Refused(why) => Verdict::Refused(why),
+        Verdict::Accepted => of_record(page, external, r),
+    }
 }

@@ -1,28 +1,19 @@
--- The largest successor, as the code comes by it.
-use mathlib.Core.Path.{_≡_, sym, ap, _∙_}
+-- The largest successor of bundle k, by its halfwords.
+use mathlib.Core.Path.{_≡_}
 use mathlib.Core.Bool.{true, false}
 use mathlib.Core.List.{List}
 use Prim.Native.Nat.{ℕ, _+_}
-use Rattle.prefix.specs.Prefix.{goes}
-use Rattle.prefix.specs.LargestSuccessor.{insert, largestSuccessor, withSuccessor}
-use Rattle.prefix.proofs.Successors.{largest-inserted}
-use Rattle.prefix.specs.declared.LargestSuccessor.{LargestSuccessor}
-use Rattle.prefix.specs.declared.LargestSuccessor.the-variants.{Bad}
+use Rattle.prefix.specs.LargestSuccessor.{badBundle, largestSuccessor}
 use Rattle.page.specs.Page.{firstOf, secondOf}
 use Rattle.isa.specs.ListedEncodings.{opens32, decode16Of, decode32Of}
 use Rattle.bundle.specs.Successors.{wide, narrow, successorsOf}
-
-pub one-more : (r : LargestSuccessor) (bs : List ℕ) (s : ℕ) → r ≡ largestSuccessor (goes bs) → withSuccessor r s ≡ largestSuccessor (goes (insert s bs))
-one-more r bs s e = ap (λ (q : LargestSuccessor). withSuccessor q s) e ∙ sym (largest-inserted s bs)
-
--- ---- bundle k by its halfwords
 
 module _ (page : List ℕ) (k first second : ℕ) (e : first ≡ firstOf page k) (f : second ≡ secondOf page k) where
   pub wide-case : opens32 first ≡ true → largestSuccessor (wide (decode32Of first second) (k + 1)) ≡ largestSuccessor (successorsOf page k)
   unfolding successorsOf
   wide-case o = rw (← e, ← f, o)
 
-  pub late-opening : opens32 first ≡ false → opens32 second ≡ true → Bad ≡ largestSuccessor (successorsOf page k)
+  pub late-opening : opens32 first ≡ false → opens32 second ≡ true → badBundle ≡ largestSuccessor (successorsOf page k)
   unfolding successorsOf
   late-opening o p = rw (← e, ← f, o, p)
 

@@ -17,7 +17,7 @@ use Rattle.bundle.specs.declared.Flow.{Flow}
 use Rattle.bundle.specs.declared.Flow.the-variants.{Bad, Next, NextOr, To, Ends}
 use Rattle.bundle.specs.Reader.{readBundle}
 
-pub read-accepted : (page : List ℕ) (k : ℕ) → pageFits page ≡ true → k < bundlesIn page → readBundle page k .largest ≡ largestSuccessor (successorsOf page k)
+pub read-accepted : (page : List ℕ) (k : ℕ) → pageFits page ≡ true → k < bundlesIn page → readBundle page k .reading ≡ largestSuccessor (successorsOf page k)
 read-accepted page k f l = rw (f, lt-leb (bundlesIn page) k l)
 
 -- ---- at most three successors, ascending and without repeats

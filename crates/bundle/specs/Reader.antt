@@ -2,20 +2,28 @@
 use Prim.Native.Nat.{ℕ}
 use mathlib.Core.List.{List, [], _∷_}
 use lib.Dec.{leb}
-use Rattle.refusal.specs.Refusals.{Rule, rule, verdict, whenAccepted}
-use Rattle.refusal.specs.declared.Refusal.the-variants.{NoSuchBundle}
-use Rattle.prefix.specs.LargestSuccessor.{largestSuccessor}
-use Rattle.prefix.specs.declared.LargestSuccessor.the-variants.{Bad}
+use Rattle.refusal.specs.Refusals.{Decision, Rule, rule, decision, whenAccepted, decisionOf}
+use Rattle.prefix.specs.LargestSuccessor.{Reading, badBundle, largestSuccessor, readingOf}
 use Rattle.page.specs.Page.{pageRule, bundlesIn}
 use Rattle.bundle.specs.Successors.{successorsOf}
 use Rattle.bundle.specs.declared.Read.{Read}
 
 -- refusals 1, then 8
 abbrev pub readRules : List ℕ → ℕ → List Rule
-readRules page k = pageRule page ∷ rule (leb (bundlesIn page) k) NoSuchBundle ∷ []
+readRules page k = pageRule page ∷ rule (leb (bundlesIn page) k) 8 [] ∷ []
 
-abbrev pub readBundle : List ℕ → ℕ → Read
+-- what the reader gives
+pub record ReaderAnswer : Type 0 where
+  pub decision : Decision
+  pub reading : Reading
+
+-- refused, a bad bundle
+abbrev pub readBundle : List ℕ → ℕ → ReaderAnswer
 readBundle page k = record {
-  verdict = verdict (readRules page k);
-  largest = whenAccepted (verdict (readRules page k)) (largestSuccessor (successorsOf page k)) Bad;
+  decision = decision (readRules page k);
+  reading = whenAccepted (decision (readRules page k)) (largestSuccessor (successorsOf page k)) badBundle;
 }
+
+-- the code's answer, by the build paper's numbers and values
+abbrev pub seenRead : Read → ReaderAnswer
+seenRead r = record { decision = decisionOf (r .verdict); reading = readingOf (r .largest) }

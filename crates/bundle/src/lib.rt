@@ -3,12 +3,12 @@ ghost use mathlib.Core.Path.{_≡_};
 ghost use mathlib.Core.List.{List};
 ghost use Prim.Native.Nat.{ℕ, _<_};
 ghost use Rattle.prefix.specs.Prefix.{goes};
-ghost use Rattle.prefix.specs.LargestSuccessor.{largestSuccessor};
+ghost use Rattle.prefix.specs.LargestSuccessor.{largestSuccessor, readingOf};
 ghost use Rattle.service.specs.Services.{endingOf};
 ghost use Rattle.bundle.specs.Flow.{jumpTo, serviceJump, jumpOf, flowBy, flowOf};
 ghost use Rattle.bundle.specs.Flow as flow;
 ghost use Rattle.bundle.specs.Successors.{afterSecond, afterFirst, wide, successorsOf};
-ghost use Rattle.bundle.specs.Reader.{readBundle};
+ghost use Rattle.bundle.specs.Reader.{readBundle, seenRead};
 use branch::Target;
 use isa::Instruction;
 use prefix::LargestSuccessor;
@@ -145,7 +145,7 @@ pub fn is_listed(i: Instruction) -> bool
 
 // The second half, behind a first one whose targets have the largest successor r.
 fn after_second(r: LargestSuccessor, second: Flow, next: u32) -> LargestSuccessor
-    ensures { λ q. ⌜ ((bs : List ℕ) → r ≡ largestSuccessor (goes bs) → q ≡ largestSuccessor (afterSecond bs second next)) ⌝ }
+    ensures { λ q. ⌜ ((bs : List ℕ) → readingOf r ≡ largestSuccessor (goes bs) → readingOf q ≡ largestSuccessor (afterSecond bs second next)) ⌝ }
 {
     match second {
         Flow::Bad => LargestSuccessor::Bad,
@@ -158,7 +158,7 @@ fn after_second(r: LargestSuccessor, second: Flow, next: u32) -> LargestSuccesso
 
 // Both halves. Behind a terminator the second must only be listed.
 fn after_first(first: Flow, listed: bool, second: Flow, next: u32) -> LargestSuccessor
-    ensures { λ r. ⌜ r ≡ largestSuccessor (afterFirst first listed second next) ⌝ }
+    ensures { λ r. ⌜ readingOf r ≡ largestSuccessor (afterFirst first listed second next) ⌝ }
 {
     match first {
         Flow::Bad => LargestSuccessor::Bad,
@@ -183,7 +183,7 @@ fn after_first(first: Flow, listed: bool, second: Flow, next: u32) -> LargestSuc
 
 // A bundle of one 32-bit instruction.
 fn of_wide(i: Instruction, next: u32) -> LargestSuccessor
-    ensures { λ r. ⌜ r ≡ largestSuccessor (wide i next) ⌝ }
+    ensures { λ r. ⌜ readingOf r ≡ largestSuccessor (wide i next) ⌝ }
 {
     if is_listed(i) {
         LargestSuccessor::Largest(next)
@@ -194,7 +194,7 @@ fn of_wide(i: Instruction, next: u32) -> LargestSuccessor
 
 fn largest_at(page: &[u8], k: u32) -> LargestSuccessor
     requires { ⌜ k < 64 ⌝ }
-    ensures { λ r. ⌜ r ≡ largestSuccessor (successorsOf (now (page .entry)) k) ⌝ }
+    ensures { λ r. ⌜ readingOf r ≡ largestSuccessor (successorsOf (now (page .entry)) k) ⌝ }
 {
     let h = page::halves_of(page, k);
     let first = h.first;
@@ -218,7 +218,7 @@ fn largest_at(page: &[u8], k: u32) -> LargestSuccessor
 
 // Bundle k of the page.
 pub fn read_bundle(page: &[u8], k: u32) -> Read
-    ensures { λ r. ⌜ r ≡ readBundle (now (page .entry)) k ⌝ }
+    ensures { λ r. ⌜ seenRead r ≡ readBundle (now (page .entry)) k ⌝ }
 {
     if !page::fits(page) {
         return Read {

@@ -1,7 +1,7 @@
 -- The count: the greatest closed prefix of the page's bundles.
 use Prim.Native.Nat.{ℕ}
 use mathlib.Core.List.{List, [], _∷_}
-use Rattle.refusal.specs.Refusals.{Rule, verdict, whenAccepted}
+use Rattle.refusal.specs.Refusals.{Decision, Rule, decision, whenAccepted, decisionOf}
 use Rattle.page.specs.Page.{pageRule, bundlesIn}
 use Rattle.prefix.specs.Prefix.{greatestClosed}
 use Rattle.bundle.specs.Successors.{successorsOf}
@@ -11,12 +11,22 @@ use Rattle.count.specs.declared.Counted.{Counted}
 abbrev pub countOf : List ℕ → ℕ
 countOf page = greatestClosed (successorsOf page) (bundlesIn page)
 
--- refusal 1; refused, 0
+-- refusal 1
 abbrev pub countRules : List ℕ → List Rule
 countRules page = pageRule page ∷ []
 
-abbrev pub countPage : List ℕ → Counted
+-- what the count gives
+pub record CountAnswer : Type 0 where
+  pub decision : Decision
+  pub count : ℕ
+
+-- refused, 0
+abbrev pub countPage : List ℕ → CountAnswer
 countPage page = record {
-  verdict = verdict (countRules page);
-  count = whenAccepted (verdict (countRules page)) (countOf page) 0;
+  decision = decision (countRules page);
+  count = whenAccepted (decision (countRules page)) (countOf page) 0;
 }
+
+-- the code's answer, by the build paper's numbers and values
+abbrev pub seenCount : Counted → CountAnswer
+seenCount c = record { decision = decisionOf (c .verdict); count = c .count }

@@ -1,6 +1,6 @@
 // The count of a page: its greatest closed prefix, in a single pass from the last bundle back.
 ghost use mathlib.Core.Path.{_≡_};
-ghost use Rattle.count.specs.Count.{countPage};
+ghost use Rattle.count.specs.Count.{countPage, seenCount};
 use refusal::Refusal;
 use refusal::Verdict;
 
@@ -10,7 +10,7 @@ pub struct Counted {
 }
 
 pub fn count(page: &[u8]) -> Counted
-    ensures { λ r. ⌜ r ≡ countPage (now (page .entry)) ⌝ }
+    ensures { λ r. ⌜ seenCount r ≡ countPage (now (page .entry)) ⌝ }
 {
     if !page::fits(page) {
         return Counted {

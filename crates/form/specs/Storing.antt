@@ -4,30 +4,37 @@ use mathlib.Core.Bool.{not}
 use mathlib.Core.List.{List, [], _∷_}
 use lib.Dec.{eqb}
 use lib.ListN.{length}
-use Rattle.refusal.specs.Refusals.{Rule, rule, verdict, whenAccepted}
-use Rattle.refusal.specs.declared.Refusal.the-variants.{FormLength, FormRange}
-use Rattle.refusal.specs.declared.Verdict.{Verdict}
+use Rattle.refusal.specs.Refusals.{Decision, Rule, rule, decision, whenAccepted, decisionOf}
 use Rattle.state.specs.Record.{freshRecord}
 use Rattle.state.specs.declared.Record.{Record}
 use Rattle.layout.specs.StoredForm.{storedForm, decode, valuesInRange, valuesOf, recordBytes, recordIn}
 use Rattle.form.specs.declared.ReadBack.{ReadBack}
 
 abbrev pub storeRules : Record → ℕ → List Rule
-storeRules r room = rule (not (eqb room 44)) FormLength ∷ rule (not (valuesInRange (valuesOf r))) FormRange ∷ []
+storeRules r room = rule (not (eqb room 44)) 6 [] ∷ rule (not (valuesInRange (valuesOf r))) 7 [] ∷ []
 
 -- refused, nothing is written
-abbrev pub storeVerdict : Record → List ℕ → Verdict
-storeVerdict r room = verdict (storeRules r (length room))
+abbrev pub storeDecision : Record → List ℕ → Decision
+storeDecision r room = decision (storeRules r (length room))
 
 abbrev pub roomAfter : Record → List ℕ → List ℕ
-roomAfter r room = whenAccepted (storeVerdict r room) (recordBytes r) room
+roomAfter r room = whenAccepted (storeDecision r room) (recordBytes r) room
 
 abbrev pub loadRules : List ℕ → List Rule
-loadRules bytes = rule (not (eqb (length bytes) 44)) FormLength ∷ rule (not (valuesInRange (decode storedForm bytes))) FormRange ∷ []
+loadRules bytes = rule (not (eqb (length bytes) 44)) 6 [] ∷ rule (not (valuesInRange (decode storedForm bytes))) 7 [] ∷ []
+
+-- what reading back gives
+pub record LoadAnswer : Type 0 where
+  pub decision : Decision
+  pub loaded : Record
 
 -- refused, the fresh record
-abbrev pub loadRecord : List ℕ → ReadBack
+abbrev pub loadRecord : List ℕ → LoadAnswer
 loadRecord bytes = record {
-  verdict = verdict (loadRules bytes);
-  loaded = whenAccepted (verdict (loadRules bytes)) (recordIn bytes) freshRecord;
+  decision = decision (loadRules bytes);
+  loaded = whenAccepted (decision (loadRules bytes)) (recordIn bytes) freshRecord;
 }
+
+-- the code's answer, by the build paper's numbers and values
+abbrev pub seenReadBack : ReadBack → LoadAnswer
+seenReadBack a = record { decision = decisionOf (a .verdict); loaded = a .loaded }

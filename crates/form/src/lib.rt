@@ -2,7 +2,8 @@
 ghost use mathlib.Core.Path.{_≡_};
 ghost use mathlib.Core.Bool.{_&&_};
 ghost use Rattle.layout.specs.StoredForm.{kindInRange, offsetInRange, valuesInRange};
-ghost use Rattle.form.specs.Storing.{storeVerdict, roomAfter, loadRecord};
+ghost use Rattle.refusal.specs.Refusals.{decisionOf};
+ghost use Rattle.form.specs.Storing.{storeDecision, roomAfter, loadRecord, seenReadBack};
 use refusal::Refusal;
 use refusal::Verdict;
 use state::Record;
@@ -45,7 +46,7 @@ fn in_range(values: [u32; 13]) -> bool
 
 // Writes a record to room of 44 bytes.
 pub fn store(r: Record, room: &mut [u8]) -> Verdict
-    ensures { λ v. ⌜ (v ≡ storeVerdict r (now (room .entry))) × (now (room .exit) ≡ roomAfter r (now (room .entry))) ⌝ }
+    ensures { λ v. ⌜ (decisionOf v ≡ storeDecision r (now (room .entry))) × (now (room .exit) ≡ roomAfter r (now (room .entry))) ⌝ }
 {
     if room.len() != 44 {
         return Verdict::Refused(Refusal::FormLength);
@@ -59,7 +60,7 @@ pub fn store(r: Record, room: &mut [u8]) -> Verdict
 
 // Reads a record back.
 pub fn load(bytes: &[u8]) -> ReadBack
-    ensures { λ r. ⌜ r ≡ loadRecord (now (bytes .entry)) ⌝ }
+    ensures { λ r. ⌜ seenReadBack r ≡ loadRecord (now (bytes .entry)) ⌝ }
 {
     if bytes.len() != 44 {
         return ReadBack {

@@ -14,7 +14,8 @@ use Rattle.arm.specs.declared.Flags.{Flags}
 use Rattle.state.specs.declared.Base.{Base}
 use Rattle.state.specs.declared.Base.the-variants.{Nothing, Ram, External}
 use Rattle.state.specs.declared.Record.{Record}
-use Rattle.layout.specs.StoredForm.{storedForm, encode, decode, kindOf, offsetOf, baseOf, bitOf, flagsNumber, flagsOf, valuesOf, recordOf, recordBytes, recordIn, baseStands, isRecord, holdsRecord, Held}
+use Rattle.state.specs.Record.{kindOf, offsetOf}
+use Rattle.layout.specs.StoredForm.{storedForm, encode, decode, baseOf, bitOf, flagsNumber, flagsOf, valuesOf, recordOf, recordBytes, recordIn, baseStands, isRecord, holdsRecord, Held}
 use Rattle.layout.proofs.Fields.{bit-small, elements, elements-are, whole, decode-encode, encode-decode, length-encode, ValuesFit}
 
 -- ---- flags and their number

@@ -8,7 +8,7 @@ use mathlib.Core.Path.{_≡_}
 use Rattle.bits.specs.Fields.{bit}
 use Rattle.arm.specs.declared.Flags.{Flags}
 use Rattle.endian.specs.LittleEndian.{loadLE, bytesOf}
-use Rattle.state.specs.Record.{spFits}
+use Rattle.state.specs.Record.{kindOf, offsetOf, spFits}
 use Rattle.state.specs.declared.Base.{Base}
 use Rattle.state.specs.declared.Base.the-variants.{Nothing, Ram, External}
 use Rattle.state.specs.declared.Record.{Record}
@@ -87,16 +87,6 @@ abbrev pub valuesInRange : List ℕ → Bool
 valuesInRange values = inRange storedForm (getD values 9 0) values
 
 -- ---- the values of a record
-
-abbrev pub kindOf : Base → ℕ
-kindOf Nothing = 0
-kindOf (Ram offset) = 1
-kindOf (External offset) = 2
-
-abbrev pub offsetOf : Base → ℕ
-offsetOf Nothing = 0
-offsetOf (Ram offset) = offset
-offsetOf (External offset) = offset
 
 abbrev pub baseOf : ℕ → ℕ → Base
 baseOf kind offset = getD (Nothing ∷ Ram offset ∷ []) kind (External offset)

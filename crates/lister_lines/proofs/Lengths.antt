@@ -3,8 +3,7 @@ use mathlib.Core.Bool.{Bool, true, false}
 use Prim.Native.Nat.{ℕ, _≤_}
 use native.Mathlib.Omega.{arith}
 use lib.ListN.{length, length-append}
-use Rattle.prefix.specs.declared.LargestSuccessor.{LargestSuccessor}
-use Rattle.prefix.specs.declared.LargestSuccessor.the-variants.{Bad, Nothing, Largest}
+use Rattle.prefix.specs.LargestSuccessor.{Reading, badBundle, noSuccessor, largest}
 use Rattle.text.proofs.Digits.{hex-length, decimal-length}
 use Rattle.lister_lines.specs.Lines.{headText, insideText, largestText, bundleText}
 
@@ -17,14 +16,14 @@ unfolding insideText
 inside-length true = omega arith
 inside-length false = omega arith
 
-largest-length : (largest : LargestSuccessor) → length (largestText largest) ≤ 10
+largest-length : (reading : Reading) → length (largestText reading) ≤ 10
 unfolding largestText
-largest-length Bad = omega arith
-largest-length Nothing = omega arith
-largest-length (Largest s) = decimal-length s
+largest-length badBundle = omega arith
+largest-length noSuccessor = omega arith
+largest-length (largest s) = decimal-length s
 
-pub line-length : (k first second : ℕ) (inside : Bool) (largest : LargestSuccessor) → length (bundleText k first second inside largest) ≤ 36
+pub line-length : (k first second : ℕ) (inside : Bool) (reading : Reading) → length (bundleText k first second inside reading) ≤ 36
 unfolding bundleText
-line-length k first second inside largest =
+line-length k first second inside reading =
     simp length-append
-    (omega (arith, decimal-length k, hex-length 4 first, hex-length 4 second, inside-length inside, largest-length largest))
+    (omega (arith, decimal-length k, hex-length 4 first, hex-length 4 second, inside-length inside, largest-length reading))

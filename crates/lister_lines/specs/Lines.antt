@@ -2,8 +2,7 @@
 use Prim.Native.Nat.{ℕ}
 use mathlib.Core.Bool.{Bool, true, false}
 use mathlib.Core.List.{List, _++_}
-use Rattle.prefix.specs.declared.LargestSuccessor.{LargestSuccessor}
-use Rattle.prefix.specs.declared.LargestSuccessor.the-variants.{Bad, Nothing, Largest}
+use Rattle.prefix.specs.LargestSuccessor.{Reading, badBundle, noSuccessor, largest}
 use Rattle.text.specs.Words.{bytes, space, newline}
 use Rattle.text.specs.Digits.{hex, decimal}
 
@@ -17,13 +16,13 @@ insideText true = bytes "ok"
 insideText false = bytes "out"
 
 -- the largest successor
-unfoldable pub largestText : LargestSuccessor → List ℕ
-largestText Bad = bytes "bad"
-largestText Nothing = bytes "-"
-largestText (Largest s) = decimal s
+unfoldable pub largestText : Reading → List ℕ
+largestText badBundle = bytes "bad"
+largestText noSuccessor = bytes "-"
+largestText (largest s) = decimal s
 
 -- bundle k: its halfwords, whether it lies below the count, its largest successor
-unfoldable pub bundleText : ℕ → ℕ → ℕ → Bool → LargestSuccessor → List ℕ
-bundleText k first second inside largest =
+unfoldable pub bundleText : ℕ → ℕ → ℕ → Bool → Reading → List ℕ
+bundleText k first second inside reading =
     decimal k ++ space ++ hex 4 first ++ space ++ hex 4 second ++ space
-    ++ insideText inside ++ space ++ largestText largest ++ newline
+    ++ insideText inside ++ space ++ largestText reading ++ newline

@@ -1,6 +1,7 @@
 // The lines that the lister prints for a page that is accepted. Each is put behind the first bytes of a text, of which there are
 // at, and answers where the text then ends.
 use prefix::LargestSuccessor;
+ghost use Rattle.prefix.specs.LargestSuccessor.{readingOf};
 ghost use Rattle.text.specs.Text.{Puts};
 ghost use Rattle.lister_lines.specs.Lines.{headText, bundleText, insideText, largestText};
 
@@ -28,7 +29,7 @@ fn put_inside(text: &mut [u8], at: usize, inside: bool) -> usize
 
 // The largest successor.
 fn put_largest(text: &mut [u8], at: usize, largest: LargestSuccessor) -> usize
-    ensures { λ end. ⌜ Puts (now (text .entry)) at (largestText largest) end (now (text .exit)) ⌝ }
+    ensures { λ end. ⌜ Puts (now (text .entry)) at (largestText (readingOf largest)) end (now (text .exit)) ⌝ }
 {
     match largest {
         LargestSuccessor::Bad => text::put(text, at, b"bad"),
@@ -47,7 +48,7 @@ pub fn bundle_line(
     inside: bool,
     largest: LargestSuccessor,
 ) -> usize
-    ensures { λ end. ⌜ Puts (now (text .entry)) at (bundleText k first second inside largest) end (now (text .exit)) ⌝ }
+    ensures { λ end. ⌜ Puts (now (text .entry)) at (bundleText k first second inside (readingOf largest)) end (now (text .exit)) ⌝ }
 {
     let at = text::put_decimal(text, at, k);
     let at = text::push(text, at, b' ');

@@ -1,7 +1,7 @@
 -- A listing that grows line by line, and what the reader and the count answer.
-use mathlib.Core.Path.{_≡_, refl, sym, ap, _∙_}
-use mathlib.Core.Bool.{Bool, true, false, not, cond}
-use mathlib.Core.List.{List, _++_, append-assoc, append-nil}
+use mathlib.Core.Path.{_≡_, sym, ap, _∙_}
+use mathlib.Core.Bool.{true}
+use mathlib.Core.List.{List, [], _++_, append-assoc, append-nil}
 use Prim.Native.Nat.{ℕ, zero, suc, _+_, _<_}
 use native.Mathlib.Nat.{add-zero}
 use native.Mathlib.Numerals.{add-one}
@@ -10,14 +10,15 @@ use lib.Dec.{ltb}
 use Rattle.refusal.specs.declared.Verdict.{Verdict}
 use Rattle.refusal.specs.declared.Verdict.the-variants.{Accepted, Refused}
 use Rattle.refusal.specs.declared.Refusal.{Refusal}
-use Rattle.refusal.specs.declared.Refusal.the-variants.{PageLength}
-use Rattle.refusal.specs.Refusals.{refusalNumber}
+use Rattle.refusal.specs.Refusals.{accepted, refusalNumber, decisionOf}
+use Rattle.refusal.proofs.Theorems.{passes}
 use Rattle.page.specs.Page.{pageFits, bundlesIn, firstOf, secondOf}
-use Rattle.bundle.specs.Reader.{readBundle}
+use Rattle.prefix.specs.LargestSuccessor.{readingOf}
+use Rattle.bundle.specs.Reader.{ReaderAnswer, readBundle, seenRead}
 use Rattle.bundle.proofs.Theorems.{read-accepted}
 use Rattle.bundle.specs.declared.Read.{Read}
 use Rattle.count.specs.declared.Counted.{Counted}
-use Rattle.count.specs.Count.{countOf, countPage}
+use Rattle.count.specs.Count.{countOf, CountAnswer, countPage, seenCount}
 use Rattle.refusal_line.specs.RefusalLine.{refusedText}
 use Rattle.lister_lines.specs.Lines.{headText, bundleText}
 use Rattle.listing.specs.Listing.{lineOf, bundleLines, listingBy, listingOf}
@@ -41,31 +42,27 @@ line-more page k =
 
 -- ---- what the reader and the count answer
 
-pub line-is : {first second count : ℕ} {read : Read} (page : List ℕ) (k : ℕ)
+pub line-is : {first second count : ℕ} (page : List ℕ) (k : ℕ) (read : Read)
     → pageFits page ≡ true → count ≡ countOf page → k < bundlesIn page
-    → first ≡ firstOf page k → second ≡ secondOf page k → read ≡ readBundle page k
-    → bundleText k first second (ltb k count) (read .largest) ≡ lineOf page k
-line-is page k f c l p q r = rw (p, q, c, r, read-accepted page k f l)
+    → first ≡ firstOf page k → second ≡ secondOf page k → seenRead read ≡ readBundle page k
+    → bundleText k first second (ltb k count) (readingOf (read .largest)) ≡ lineOf page k
+line-is page k read f c l p q r = rw (p, q, c, ap (λ (a : ReaderAnswer). a .reading) r, read-accepted page k f l)
 
-verdict-is : {counted : Counted} {verdict : Verdict} (page : List ℕ) → counted ≡ countPage page → counted .verdict ≡ verdict
-    → countPage page .verdict ≡ verdict
-verdict-is page e v = sym (ap (λ (c : Counted). c .verdict) e) ∙ v
+decision-is : {counted : Counted} {verdict : Verdict} (page : List ℕ) → seenCount counted ≡ countPage page → counted .verdict ≡ verdict
+    → countPage page .decision ≡ decisionOf verdict
+decision-is page e v = sym (ap (λ (a : CountAnswer). a .decision) e) ∙ ap decisionOf v
 
-fit : (t : Bool) → cond (not t) (Refused PageLength) Accepted ≡ Accepted → t ≡ true
-fit true e = refl
-fit false e = let z : _≡_ {A = ℕ} 0 1 = cc in absurd (omega arith)
-
-pub accepted : {counted : Counted} (page : List ℕ) → counted ≡ countPage page → counted .verdict ≡ Accepted
+pub accepted-count : {counted : Counted} (page : List ℕ) → seenCount counted ≡ countPage page → counted .verdict ≡ Accepted
     → (pageFits page ≡ true) × (counted .count ≡ countOf page)
-accepted page e v =
-    let f : pageFits page ≡ true = fit (pageFits page) (verdict-is page e v) in
-    (f, ap (λ (c : Counted). c .count) e ∙ rw f)
+accepted-count page e v =
+    let f = passes (pageFits page) 1 [] accepted (decision-is page e v) .0 in
+    (f, ap (λ (a : CountAnswer). a .count) e ∙ rw f)
 
-pub listing-accepted : {counted : Counted} (page : List ℕ) → counted ≡ countPage page → counted .verdict ≡ Accepted
+pub listing-accepted : {counted : Counted} (page : List ℕ) → seenCount counted ≡ countPage page → counted .verdict ≡ Accepted
     → headText (bundlesIn page) (counted .count) ++ bundleLines page 0 (bundlesIn page) ≡ listingOf page
-listing-accepted page e v = rw (accepted page e v .1) (sym (ap (listingBy page) (verdict-is page e v)))
+listing-accepted page e v = rw (accepted-count page e v .1) (sym (ap (listingBy page) (decision-is page e v)))
 
 pub listing-refused : {counted : Counted} {refusal : Refusal} (page : List ℕ)
-    → counted ≡ countPage page → counted .verdict ≡ Refused refusal
+    → seenCount counted ≡ countPage page → counted .verdict ≡ Refused refusal
     → refusedText (refusalNumber refusal) ≡ listingOf page
-listing-refused page e v = sym (ap (listingBy page) (verdict-is page e v))
+listing-refused page e v = sym (ap (listingBy page) (decision-is page e v))

@@ -1,13 +1,11 @@
 -- A listing has at most 65 lines, of at most 36 bytes.
 use mathlib.Core.Path.{_≡_, refl}
 use mathlib.Core.Bool.{Bool, true, false, not, cond}
-use mathlib.Core.List.{List, _++_}
+use mathlib.Core.List.{List, [], _++_}
 use Prim.Native.Nat.{ℕ, zero, suc, _+_, _*_, _≤_}
 use native.Mathlib.Omega.{arith}
 use lib.ListN.{length, length-append}
-use Rattle.refusal.specs.declared.Refusal.the-variants.{PageLength}
-use Rattle.refusal.specs.declared.Verdict.the-variants.{Accepted, Refused}
-use Rattle.refusal.specs.Refusals.{refusalNumber}
+use Rattle.refusal.specs.Refusals.{accepted, refused}
 use Rattle.page.specs.Page.{pageFits, bundlesIn}
 use Rattle.page.proofs.Theorems.{fitting}
 use Rattle.count.specs.Count.{countOf}
@@ -23,11 +21,11 @@ lines-length page k (suc n) =
     simp length-append (omega (arith, lines-length page (suc k) n))
 
 by-fit : (page : List ℕ) (fits : Bool) → pageFits page ≡ fits
-    → length (listingBy page (cond (not fits) (Refused PageLength) Accepted)) ≤ 36 * 65
+    → length (listingBy page (cond (not fits) (refused 1 []) accepted)) ≤ 36 * 65
 by-fit page true e =
     simp length-append
     (omega (arith, fitting page e, head-length (bundlesIn page) (countOf page), lines-length page 0 (bundlesIn page)))
-by-fit page false e = omega (arith, refused-length (refusalNumber PageLength))
+by-fit page false e = omega (arith, refused-length 1)
 
 pub listing-length : (page : List ℕ) → length (listingOf page) ≤ 36 * 65
 listing-length page = by-fit page (pageFits page) refl

@@ -2,9 +2,7 @@
 use Prim.Native.Nat.{ℕ, zero, suc}
 use mathlib.Core.List.{List, [], _++_}
 use lib.Dec.{ltb}
-use Rattle.refusal.specs.declared.Verdict.{Verdict}
-use Rattle.refusal.specs.declared.Verdict.the-variants.{Accepted, Refused}
-use Rattle.refusal.specs.Refusals.{refusalNumber}
+use Rattle.refusal.specs.Refusals.{Decision, accepted, refused}
 use Rattle.page.specs.Page.{bundlesIn, firstOf, secondOf}
 use Rattle.prefix.specs.LargestSuccessor.{largestSuccessor}
 use Rattle.bundle.specs.Successors.{successorsOf}
@@ -22,9 +20,9 @@ bundleLines page k zero = []
 bundleLines page k (suc n) = lineOf page k ++ bundleLines page (suc k) n
 
 -- a page that is refused has one line
-abbrev pub listingBy : List ℕ → Verdict → List ℕ
-listingBy page Accepted = headText (bundlesIn page) (countOf page) ++ bundleLines page 0 (bundlesIn page)
-listingBy page (Refused refusal) = refusedText (refusalNumber refusal)
+abbrev pub listingBy : List ℕ → Decision → List ℕ
+listingBy page accepted = headText (bundlesIn page) (countOf page) ++ bundleLines page 0 (bundlesIn page)
+listingBy page (refused n values) = refusedText n
 
 abbrev pub listingOf : List ℕ → List ℕ
-listingOf page = listingBy page (countPage page .verdict)
+listingOf page = listingBy page (countPage page .decision)

@@ -1,11 +1,10 @@
 -- Sizes: the page, its bundles and halfwords. A page is the list of its bytes.
 use Prim.Native.Nat.{ℕ, _+_, _*_, _/_, _%_}
 use mathlib.Core.Bool.{Bool, not, _&&_}
-use mathlib.Core.List.{List}
+use mathlib.Core.List.{List, []}
 use lib.Dec.{leb, eqb}
 use lib.ListN.{length, getD}
 use Rattle.refusal.specs.Refusals.{Rule, rule}
-use Rattle.refusal.specs.declared.Refusal.the-variants.{PageLength}
 
 -- the build paper's page: 0 to 256 bytes, a multiple of 4
 unfoldable pub pageFits : List ℕ → Bool
@@ -13,7 +12,7 @@ pageFits page = leb (length page) 256 && eqb (length page % 4) 0
 
 -- refusal 1
 abbrev pub pageRule : List ℕ → Rule
-pageRule page = rule (not (pageFits page)) PageLength
+pageRule page = rule (not (pageFits page)) 1 []
 
 -- the build paper's bundles, of 4 bytes each
 abbrev pub bundlesIn : List ℕ → ℕ

@@ -1,27 +1,44 @@
 -- The largest successor is enough for the count; lists made by inserting are ascending, without repeats.
 use Prim.Native.Nat.{ℕ, suc, _≤_, _<_, max}
 use native.Mathlib.Omega.{arith}
-use mathlib.Core.Path.{_≡_, refl, ap, _∙_}
+use mathlib.Core.Path.{_≡_, refl, sym, ap, _∙_}
 use mathlib.Core.Bool.{Bool, true, false, cond}
 use mathlib.Core.List.{List, [], _∷_}
 use lib.Dec.{ltb, eqb}
 use lib.ListN.{length}
 use borrow.Author.Tests.{ltb-true, ltb-false, eqb-true, eqb-false}
 use Rattle.prefix.specs.Prefix.{Successors, bad, goes, AllBelow, within}
-use Rattle.prefix.specs.LargestSuccessor.{largest, insert, largestSuccessor, withSuccessor, largestWithin, Above, Ascending}
+use Rattle.prefix.specs.LargestSuccessor.{Reading, badBundle, noSuccessor, largest, largestOf, largestSuccessor, Above, Ascending, insert, withSuccessor}
 use Rattle.prefix.proofs.Theorems.{largest-within}
-use Rattle.prefix.specs.declared.LargestSuccessor.the-variants.{Largest}
 
-pub within-largest : (m : ℕ) (s : Successors) → within m s ≡ largestWithin m (largestSuccessor s)
+-- ---- within a bound, by the largest successor
+
+abbrev pub readingWithin : ℕ → Reading → Bool
+readingWithin m badBundle = false
+readingWithin m noSuccessor = true
+readingWithin m (largest s) = ltb s m
+
+within-largest : (m : ℕ) (x : Successors) → within m x ≡ readingWithin m (largestSuccessor x)
 within-largest m bad = refl
 within-largest m (goes []) = refl
 within-largest m (goes (s ∷ ss)) = largest-within m s ss
 
-largest-max : (a b : ℕ) (ss : List ℕ) → largest (max a b) ss ≡ max a (largest b ss)
+pub bound-by : (bound k b : ℕ) (a : Reading) → b ≡ cond (readingWithin bound a) bound k
+    → (x : Successors) → a ≡ largestSuccessor x → b ≡ cond (within bound x) bound k
+bound-by bound k b a e x h = e ∙ ap (λ (t : Bool). cond t bound k) (ap (readingWithin bound) h ∙ sym (within-largest bound x))
+
+-- ---- one successor more, by the largest
+
+abbrev pub raised : Reading → ℕ → Reading
+raised badBundle s = badBundle
+raised noSuccessor s = largest s
+raised (largest t) s = largest (max t s)
+
+largest-max : (a b : ℕ) (ss : List ℕ) → largestOf (max a b) ss ≡ max a (largestOf b ss)
 largest-max a b [] = refl
 largest-max a b (s ∷ ss) = let e : max (max a b) s ≡ max a (max b s) = omega arith in rw e (largest-max a (max b s) ss)
 
-largest-le : (a : ℕ) (ss : List ℕ) → a ≤ largest a ss
+largest-le : (a : ℕ) (ss : List ℕ) → a ≤ largestOf a ss
 largest-le a [] = omega arith
 largest-le a (s ∷ ss) = omega (arith, largest-le (max a s) ss)
 
@@ -35,21 +52,26 @@ by-order P s t {a} {b} {c} p q r = go (ltb s t) (eqb s t) refl refl
     go false true h i = q (eqb-true s t i)
     go false false h i = let d = eqb-false s t i in r (omega (arith, ltb-false s t h))
 
-insert-largest : (a s : ℕ) (ss : List ℕ) → largest a (insert s ss) ≡ max (largest a ss) s
+insert-largest : (a s : ℕ) (ss : List ℕ) → largestOf a (insert s ss) ≡ max (largestOf a ss) s
 insert-largest a s [] = refl
 insert-largest a s (t ∷ ts) =
-    by-order (λ l. largest a l ≡ max (largest (max a t) ts) s) s t
-    (λ l. ap (λ (n : ℕ). largest n ts) (omega arith) ∙ largest-max s (max a t) ts ∙ omega arith)
+    by-order (λ l. largestOf a l ≡ max (largestOf (max a t) ts) s) s t
+    (λ l. ap (λ (n : ℕ). largestOf n ts) (omega arith) ∙ largest-max s (max a t) ts ∙ omega arith)
     (λ e. omega (arith, largest-le (max a t) ts))
     (λ l. insert-largest (max a t) s ts)
 
-pub largest-inserted : (s : ℕ) (ss : List ℕ) → largestSuccessor (goes (insert s ss)) ≡ withSuccessor (largestSuccessor (goes ss)) s
-largest-inserted s [] = refl
-largest-inserted s (t ∷ ts) =
-    by-order (λ l. largestSuccessor (goes l) ≡ Largest (max (largest t ts) s)) s t
-    (λ l. ap Largest (largest-max s t ts ∙ omega arith))
-    (λ e. ap Largest (omega (arith, largest-le t ts)))
-    (λ l. ap Largest (insert-largest t s ts))
+largest-inserted : (s : ℕ) (x : Successors) → raised (largestSuccessor x) s ≡ largestSuccessor (withSuccessor x s)
+largest-inserted s bad = refl
+largest-inserted s (goes []) = refl
+largest-inserted s (goes (t ∷ ts)) =
+    by-order (λ l. largest (max (largestOf t ts) s) ≡ largestSuccessor (goes l)) s t
+    (λ l. ap largest (sym (largest-max s t ts ∙ omega arith)))
+    (λ e. ap largest (omega (arith, largest-le t ts)))
+    (λ l. ap largest (sym (insert-largest t s ts)))
+
+pub raised-by : (s : ℕ) (a b : Reading) → b ≡ raised a s
+    → (x : Successors) → a ≡ largestSuccessor x → b ≡ largestSuccessor (withSuccessor x s)
+raised-by s a b e x h = e ∙ ap (λ (c : Reading). raised c s) h ∙ largest-inserted s x
 
 -- ---- lists made by inserting are ascending, without repeats
 

@@ -10,8 +10,8 @@ use mathlib.Core.Logic.{_⊎_, inl, inr, ⊎-elim}
 use lib.Dec.{ltb}
 use borrow.Author.Tests.{ltb-true, ltb-false, lt-ltb, le-ltb}
 use Rattle.laws.proofs.Tests.{both}
-use Rattle.prefix.specs.Prefix.{Successors, bad, goes, AllBelow, Within, Closed, Greatest, allBelow, within, allWithin, greatestClosed, scanBack, singlePass, isBad, firstBad, firstOutside, passes, iterated}
-use Rattle.prefix.specs.LargestSuccessor.{largest}
+use Rattle.prefix.specs.Prefix.{Successors, bad, goes, AllBelow, Within, Closed, Greatest, allBelow, within, allWithin, greatestClosed, scanBack, singlePass, firstOutside, passes, iterated}
+use Rattle.prefix.specs.LargestSuccessor.{largestOf}
 
 -- ---- the test `within` tells `Within`
 
@@ -51,7 +51,7 @@ max-below m s t = go (ltb s m) (ltb t m) refl refl
     go true false p q = sym (le-ltb (max s t) m (omega (arith, ltb-false t m q)))
     go false b p q = sym (le-ltb (max s t) m (omega (arith, ltb-false s m p)))
 
-pub largest-within : (m s : ℕ) (ss : List ℕ) → allBelow m (s ∷ ss) ≡ ltb (largest s ss) m
+pub largest-within : (m s : ℕ) (ss : List ℕ) → allBelow m (s ∷ ss) ≡ ltb (largestOf s ss) m
 largest-within m s [] = and-true (ltb s m)
 largest-within m s (t ∷ ts) = rw (← and-assoc (ltb s m) (ltb t m) (allBelow m ts), max-below) (largest-within m (max s t) ts)
 
@@ -66,10 +66,6 @@ record Bound (successors : ℕ → Successors) (bundles b : ℕ) : Type 0 where
 by-test : (P : ℕ → Type 0) (t : Bool) {a b : ℕ} → (t ≡ true → P a) → (t ≡ false → P b) → P (cond t a b)
 by-test P true f g = f refl
 by-test P false f g = g refl
-
-bad-outside : (m : ℕ) (s : Successors) → isBad s ≡ true → within m s ≡ false
-bad-outside m bad e = refl
-bad-outside m (goes ss) e = absurd (false≢true e)
 
 module _ (successors : ℕ → Successors) where
   -- the first k bundles lie within m, so that `Closed m` is `Covers m m`
@@ -150,13 +146,6 @@ module _ (successors : ℕ → Successors) where
 
   -- ---- the iterated form
 
-  first-bad : {n b : ℕ} (left j : ℕ) → j + left ≤ b → Bound successors n b → Bound successors n (firstBad successors b left j)
-  unfolding firstBad
-  first-bad zero j l h = h
-  first-bad {n} {b} (suc left) j l h = by-test (Bound successors n) (isBad (successors j))
-      (λ e. outside h (omega arith) (bad-outside b (successors j) e))
-      (λ e. first-bad left (suc j) (omega arith) h)
-
   -- a pass lowers the bound, or has found it closed
   abbrev Passed : ℕ → ℕ → ℕ → Type 0
   Passed n b x = Bound successors n x × ((x < b) ⊎ Closed successors x)
@@ -180,7 +169,7 @@ module _ (successors : ℕ → Successors) where
       ⊎-elim (λ v. absurd (omega (arith, p .0 .above b (h .inside) (c (omega arith))))) (λ d. d) (p .1))
 
   pub iterates : (n : ℕ) → Greatest successors n (iterated successors n)
-  iterates n = let h = first-bad n 0 (omega arith) (start n) in iterate n _ h (λ u. absurd (omega arith))
+  iterates n = iterate n n (start n) (λ u. absurd (omega arith))
 
   pub iterates-is : (n : ℕ) → iterated successors n ≡ greatestClosed successors n
   iterates-is n = unique (iterates n) (definition n)

@@ -57,18 +57,11 @@ scanBack successors (suc k) bound = scanBack successors k (cond (within bound (s
 abbrev pub singlePass : (ℕ → Successors) → ℕ → ℕ
 singlePass successors bundles = scanBack successors bundles bundles
 
--- ---- document 000, iterated: the first bad bundle is the first bound; then pass after pass, the bound falls to the first
--- bundle below it that is not within it
-
-abbrev pub isBad : Successors → Bool
-isBad bad = true
-isBad (goes ss) = false
+-- ---- document 000, iterated: a pass finds the first bundle below the bound that is not within it, and the bound falls to it.
+-- The first pass is at the full bound, so that it finds the first definitely invalid bundle: one that is bad or has a successor
+-- outside the block
 
 -- of the bundles from j on, so many are looked at; else the bound stays
-unfoldable pub firstBad : (ℕ → Successors) → ℕ → ℕ → ℕ → ℕ
-firstBad successors bound zero j = bound
-firstBad successors bound (suc left) j = cond (isBad (successors j)) j (firstBad successors bound left (suc j))
-
 unfoldable pub firstOutside : (ℕ → Successors) → ℕ → ℕ → ℕ → ℕ
 firstOutside successors bound zero j = bound
 firstOutside successors bound (suc left) j = cond (within bound (successors j)) (firstOutside successors bound left (suc j)) j
@@ -77,6 +70,6 @@ unfoldable pub passes : (ℕ → Successors) → ℕ → ℕ → ℕ
 passes successors zero bound = bound
 passes successors (suc more) bound = passes successors more (firstOutside successors bound bound 0)
 
--- a pass for each bundle is enough
+-- each pass lowers the bound or changes nothing more, so that one for each bundle is enough
 abbrev pub iterated : (ℕ → Successors) → ℕ → ℕ
-iterated successors bundles = passes successors bundles (firstBad successors bundles bundles 0)
+iterated successors bundles = passes successors bundles bundles

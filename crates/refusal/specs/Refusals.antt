@@ -1,4 +1,4 @@
--- Refusals: their numbers, and the first one that applies to a call.
+-- Refusals: their numbers and values, and the first one that applies to a call.
 use Prim.Native.Nat.{ℕ}
 use mathlib.Core.Bool.{Bool, cond}
 use mathlib.Core.List.{List, [], _∷_}
@@ -6,6 +6,28 @@ use Rattle.refusal.specs.declared.Refusal.{Refusal}
 use Rattle.refusal.specs.declared.Refusal.the-variants.{PageLength, RamLength, ExternalLength, UnfitRecord, UnfitPlace, FormLength, FormRange, NoSuchBundle}
 use Rattle.refusal.specs.declared.Verdict.{Verdict}
 use Rattle.refusal.specs.declared.Verdict.the-variants.{Accepted, Refused}
+
+-- what a call is told: accepted, or refused with the build paper's number and the values that it carries
+pub data Decision : Type 0 where
+  accepted : Decision
+  refused : ℕ → List ℕ → Decision
+
+-- a line of a call's refusal table: refused with this number and these values when the test holds
+pub data Rule : Type 0 where
+  rule : Bool → ℕ → List ℕ → Rule
+
+-- a table is read top down; nothing else is refused
+abbrev pub decision : List Rule → Decision
+decision [] = accepted
+decision (rule test n values ∷ rules) = cond test (refused n values) (decision rules)
+
+-- the answer of a call that is accepted, and of one that is refused
+module _ {ℓ} {A : Type ℓ} where
+  abbrev pub whenAccepted : Decision → A → A → A
+  whenAccepted accepted answer otherwise = answer
+  whenAccepted (refused n values) answer otherwise = otherwise
+
+-- ---- the code's cases
 
 abbrev pub refusalNumber : Refusal → ℕ
 refusalNumber PageLength = 1
@@ -17,17 +39,10 @@ refusalNumber FormLength = 6
 refusalNumber FormRange = 7
 refusalNumber NoSuchBundle = 8
 
--- a line of a call's refusal table: refused when the test holds
-pub data Rule : Type 0 where
-  rule : Bool → Refusal → Rule
+-- none of them carries a value
+abbrev pub refusalValues : Refusal → List ℕ
+refusalValues r = []
 
--- a table is read top down; nothing else is refused
-abbrev pub verdict : List Rule → Verdict
-verdict [] = Accepted
-verdict (rule test r ∷ rules) = cond test (Refused r) (verdict rules)
-
--- the answer of a call that is accepted, and of one that is refused
-module _ {ℓ} {A : Type ℓ} where
-  abbrev pub whenAccepted : Verdict → A → A → A
-  whenAccepted Accepted answer refused = answer
-  whenAccepted (Refused r) answer refused = refused
+abbrev pub decisionOf : Verdict → Decision
+decisionOf Accepted = accepted
+decisionOf (Refused r) = refused (refusalNumber r) (refusalValues r)

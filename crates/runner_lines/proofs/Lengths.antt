@@ -18,7 +18,7 @@ stop-length (service (direct n)) = simp length-append (omega (arith, hex-length 
 stop-length (service (byLiteral n literal)) = simp length-append (omega (arith, hex-length 2 n, hex-length 8 literal))
 stop-length (fault n) = simp length-append (omega (arith, decimal-length n))
 stop-length unlisted = omega arith
-stop-length (refused n) = omega (arith, refused-length n)
+stop-length (refused n values) = omega (arith, refused-length n)
 
 pub steps-length : (steps : ℕ) → length (stepsText steps) ≤ 17
 unfolding stepsText

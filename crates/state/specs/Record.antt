@@ -19,6 +19,19 @@ freshRecord = record {
   base = Nothing;
 }
 
+-- ---- parts
+
+-- the build paper's base, by the number of its kind, 0 none, 1 RAM, 2 external, and its offset, zero for none
+abbrev pub kindOf : Base → ℕ
+kindOf Nothing = 0
+kindOf (Ram offset) = 1
+kindOf (External offset) = 2
+
+abbrev pub offsetOf : Base → ℕ
+offsetOf Nothing = 0
+offsetOf (Ram offset) = offset
+offsetOf (External offset) = offset
+
 -- register k of the eight
 abbrev pub registerIn : List ℕ → ℕ → ℕ
 registerIn regs k = getD regs k 0
@@ -40,6 +53,8 @@ withPlace r p = record { regs = r .regs; sp = r .sp; flags = r .flags; place = p
 
 unfoldable pub withBase : Record → Base → Record
 withBase r b = record { regs = r .regs; sp = r .sp; flags = r .flags; place = r .place; base = b }
+
+-- ---- fit records
 
 -- SP from 0x10000 to 0x18000 and a multiple of 4
 abbrev pub spFits : ℕ → Bool

@@ -4,7 +4,7 @@ ghost use mathlib.Core.Bool.{cond};
 ghost use lib.Dec.{ltb};
 ghost use lib.ListN.{length, set};
 ghost use Rattle.state.specs.Record.{registerIn, register, withRegister, withSp, withFlags, withPlace, withBase, freshRecord, spFits, baseFits, fitRecord};
-ghost use Rattle.state.specs.Validation.{externalFits, validated, validateBase};
+ghost use Rattle.state.specs.Validation.{externalFits, validated, validateBase, seenValidated};
 use arm::Flags;
 use refusal::Refusal;
 use refusal::Verdict;
@@ -187,7 +187,7 @@ pub fn base_of(v: u32, external: usize) -> Base
 
 // Base validation.
 pub fn validate(v: u32, external: &[u8]) -> Validated
-    ensures { λ r. ⌜ r ≡ validateBase v (length (now (external .entry))) ⌝ }
+    ensures { λ r. ⌜ seenValidated r ≡ validateBase v (length (now (external .entry))) ⌝ }
 {
     if !external_fits(external) {
         return Validated {

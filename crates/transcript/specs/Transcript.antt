@@ -11,7 +11,7 @@ isRefusal budget = false
 isRefusal (service exit) = false
 isRefusal (fault n) = false
 isRefusal unlisted = false
-isRefusal (refused n) = true
+isRefusal (refused n values) = true
 
 -- the five lines of a run
 abbrev pub runLines : Reason → ℕ → Record → List ℕ

@@ -11,7 +11,7 @@ returns c =
     let halves = read .before .halves-of .ensures in
     let start = read .before .before .before .before in
     let pre = start .pre in
-    rw (line-is (start .args .page .now) (start .args .k) (pre .0) (pre .1) (pre .2) (ap (λ (h : Halves). h .first) halves) (ap (λ (h : Halves). h .second) halves) (read .read-bundle .ensures))
+    rw (line-is (start .args .page .now) (start .args .k) (read .read-bundle .result) (pre .0) (pre .1) (pre .2) (ap (λ (h : Halves). h .first) halves) (ap (λ (h : Halves). h .second) halves) (read .read-bundle .ensures))
     at (c .before .before .bundle-line .ensures)
 
 pub put-bundle-spec : {M : Type 1} → statement M

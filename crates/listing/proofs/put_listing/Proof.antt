@@ -1,12 +1,12 @@
 use borrow.Author.Needs.{needs}
-use Rattle.listing.proofs.Laws.{accepted, listing-accepted, listing-refused}
+use Rattle.listing.proofs.Laws.{accepted-count, listing-accepted, listing-refused}
 use Rattle.listing.proofs.put_listing.Statement.{statement}
 use Rattle.listing.proofs.put_listing.Tie as tie
 
 put-page-requires : tie.Need-put-page-requires
 put-page-requires c κs =
     let called = c .before .before .before in
-    accepted (called .before .before .before .args .page .now) (called .count .ensures) (c .before .enum-told .given .1)
+    accepted-count (called .before .before .before .args .page .now) (called .count .ensures) (c .before .enum-told .given .1)
 
 returns : tie.Need-returns
 returns c =
