@@ -4,11 +4,20 @@ use native.Mathlib.Omega.{arith}
 use mathlib.Core.Bool.{Bool, true, false, cond, true≢false}
 use mathlib.Core.List.{List, [], _∷_}
 use types.Run.{OneOf, miss}
-use mathlib.Core.Path.{_≡_, refl, _∙_}
+use mathlib.Core.Path.{_≡_, refl, sym, ap, _∙_}
 use lib.Dec.{ltb}
 use lib.ListN.{length, set, length-set}
 use borrow.Author.Tests.{ltb-true}
+use Rattle.refusal.specs.Refusals.{Decision, accepted, refusalNumber, refusalValues, decisionOf}
+use Rattle.refusal.specs.declared.Refusal.{Refusal}
+use Rattle.refusal.specs.declared.Verdict.{Verdict}
+use Rattle.refusal.specs.declared.Verdict.the-variants.{Accepted, Refused}
 use Rattle.page.specs.Page.{firstOf, secondOf}
+use Rattle.page.proofs.Theorems.{fitting}
+use Rattle.admission.specs.RunRefusals.{runDecision}
+use Rattle.admission.proofs.Theorems.{accepted-page}
+use Rattle.plain.specs.Calls.{callBy}
+use Rattle.machine.specs.Runs.{runOf}
 use Rattle.isa.specs.ListedEncodings.{opens32}
 use Rattle.isa.specs.declared.Operation.{Operation}
 use Rattle.isa.specs.declared.Instruction.{Instruction}
@@ -37,7 +46,7 @@ use Rattle.plain.specs.PlainMachine.{Effect, goesOn, exits, faults, unlisted, R
 use Rattle.plain.proofs.Theorems.{turn}
 use Rattle.place.specs.Places.{isEven, standsIn, instructionAt, following}
 use Rattle.instruction.specs.Instructions.{endAt, branchTo, branchIf, exitOf, servedBy, served, writesOf, effectOf, instructionOf}
-use Rattle.machine.specs.Executed.{exitEnd, executedOf, effectRam, Executes, endedBy}
+use Rattle.machine.specs.Executed.{exitEnd, Ended, executedOf, effectRam, Executes, endedBy}
 use Rattle.machine.specs.declared.End.{End}
 use Rattle.machine.specs.declared.End.the-variants.{GoesOn, Exits, ExitsBy, Fails, Unlisted}
 use Rattle.machine.specs.declared.Executed.{Executed}
@@ -46,7 +55,8 @@ use Rattle.machine.specs.declared.Executed.{Executed}
 
 -- the end by which the code says how an effect ends
 abbrev pub Ends : End → (Record → List ℕ → Effect) → Type 0
-Ends end effect = (r s : Record) (ram after : List ℕ) → Executes r ram (effect s after) (record { end = end; after = s }) after
+Ends end effect = (r s : Record) (ram left : List ℕ)
+    → (record { end = end; rec = s } ≡ executedOf r (effect s left)) × (left ≡ effectRam ram (effect s left))
 
 pub goes-on : Ends GoesOn goesOn
 unfolding executedOf effectRam
@@ -59,7 +69,8 @@ exits-so exit r s ram after = (refl, refl)
 -- done as an outcome says, and it ends so at a place
 pub ends : (end : End) (effect : Record → List ℕ → Effect) → Ends end effect
     → (r : Record) (ram after : List ℕ) (place : ℕ) (o : Outcome) (d : Did)
-    → Does ram o d after → Executes r ram (endAt effect r place o) (endedBy end r place d) after
+    → Does ram o d after
+    → (endedBy end r place d ≡ executedOf r (endAt effect r place o)) × (after ≡ effectRam ram (endAt effect r place o))
 unfolding endedBy executedOf effectRam endAt didOf outcomes.outcomeRam
 ends end effect e r ram after place (does w m) d h = rw (h .0, h .1) (e r _ ram m)
 ends end effect e r ram after place (fails f) d h = rw (h .0, h .1) (refl, refl)
@@ -75,10 +86,10 @@ unfolding branchIf effectRam
 branch-if-ram true r ram next t = branch-ram r ram t
 branch-if-ram false r ram next t = refl
 
-pub branching : (r : Record) (ram : List ℕ) (taken held : Bool) (next behind : ℕ) (t to : Target) (x : Executed)
-    → taken ≡ held → next ≡ behind → t ≡ to
-    → x ≡ executedOf r (branchIf taken r ram next t) → x ≡ executedOf r (branchIf held r ram behind to)
-branching r ram taken held next behind t to x p q s h = rw (← p, ← q, ← s) h
+pub branching : (r : Record) (ram : List ℕ) (taken held : Bool) (next : ℕ) (t to : Target) (x : Ended)
+    → taken ≡ held → t ≡ to
+    → x ≡ executedOf r (branchIf taken r ram next t) → x ≡ executedOf r (branchIf held r ram next to)
+branching r ram taken held next t to x p s h = rw (← p, ← s) h
 
 -- a service, by its meaning and its ending
 pub serving : (page external : List ℕ) (r : Record) (ram : List ℕ) (n : ℕ) (s : Service) (e : Ending)
@@ -107,7 +118,7 @@ resumed steps next (Fails f) r ram = record { stop = fault (faultNumber f); step
 resumed steps next Unlisted r ram = record { stop = stops.unlisted; steps = steps; rec = r; ram = ram }
 
 onward-resumed : (steps : ℕ) (r : Record) (ram : List ℕ) (next : Record → List ℕ → Result) (e : Effect)
-    → resumed steps next (executedOf r e .end) (executedOf r e .after) (effectRam ram e) ≡ onward steps r ram next e
+    → resumed steps next (executedOf r e .end) (executedOf r e .rec) (effectRam ram e) ≡ onward steps r ram next e
 unfolding executedOf effectRam exitEnd
 onward-resumed steps r ram next (goesOn s after) = refl
 onward-resumed steps r ram next (exits (direct n) s after) = refl
@@ -116,12 +127,12 @@ onward-resumed steps r ram next (faults f) = refl
 onward-resumed steps r ram next unlisted = refl
 
 -- a turn of the loop
-pub turns : (instruction : Record → List ℕ → Effect) (total steps : ℕ) (r : Record) (ram after : List ℕ) (x : Executed) (end : End)
-    (result : Result) → steps < total → Executes r ram (instruction r ram) x after → x .end ≡ end
-    → plain instruction (total - steps) steps r ram ≡ result
-    → resumed steps (plain instruction (total - (steps + 1)) (steps + 1)) end (x .after) after ≡ result
-turns instruction total steps r ram after x end result l h e inv =
-    rw (← e, h .1, h .0)
+pub turns : (instruction : Record → List ℕ → Effect) (total steps : ℕ) (r : Record) (ram left : List ℕ) (x : Executed) (end : End)
+    (s : Record) (result : Result) → steps < total → Executes r ram (instruction r ram) x left → x .end ≡ end
+    → s ≡ applied r (x .writes) (x .place) → plain instruction (total - steps) steps r ram ≡ result
+    → resumed steps (plain instruction (total - (steps + 1)) (steps + 1)) end s left ≡ result
+turns instruction total steps r ram left x end s result l h e w inv =
+    rw (w ∙ ap (λ (a : Ended). a .rec) (h .0), sym e ∙ ap (λ (a : Ended). a .end) (h .0), h .1)
     (onward-resumed steps r ram (plain instruction (total - (steps + 1)) (steps + 1)) (instruction r ram)
     ∙ turn instruction total steps r ram (instruction r ram) result l refl inv)
 
@@ -169,3 +180,19 @@ unfolding instructionOf effectOf endAt applied
 data-turn page external total steps r s ram operation c next result l i e n w h =
     rw (w, e, n) (turn (instructionOf page external) total steps r ram
     (goesOn (applied r (writesOf operation r) (following page (r .place))) ram) result l (rw i) h)
+
+-- ---- a call
+
+module _ (page external : List ℕ) (total : ℕ) (r : Record) (ram : List ℕ) (v : Verdict) (e : decisionOf v ≡ runDecision page external r ram) where
+  decided : (d : Decision) → decisionOf v ≡ d → callBy d (instructionOf page external) total r ram ≡ runOf page external total r ram
+  decided d h = ap (λ (x : Decision). callBy x (instructionOf page external) total r ram) (sym h ∙ e)
+
+  pub refused-run : (why : Refusal) → v ≡ Refused why
+      → record { stop = stops.refused (refusalNumber why) (refusalValues why); steps = 0; rec = r; ram = ram } ≡ runOf page external total r ram
+  refused-run why h = decided (decisionOf (Refused why)) (ap decisionOf h)
+
+  pub accepted-run : (x : Result) → v ≡ Accepted → x ≡ plain (instructionOf page external) total 0 r ram → x ≡ runOf page external total r ram
+  accepted-run x h ran = ran ∙ decided accepted (ap decisionOf h)
+
+  pub accepted-short : v ≡ Accepted → length page ≤ 256
+  accepted-short h = fitting page (accepted-page page external r ram (sym e ∙ ap decisionOf h)) .0

@@ -1,4 +1,4 @@
--- What the code gives back for an instruction: how it ended and the record afterwards.
+-- What the code gives back for an instruction: how it ended, and what it writes.
 use Prim.Native.Nat.{ℕ}
 use mathlib.Core.List.{List}
 use mathlib.Core.Path.{_≡_}
@@ -19,11 +19,19 @@ unfoldable pub exitEnd : Exit → End
 exitEnd (direct n) = Exits n
 exitEnd (byLiteral n literal) = ExitsBy n literal
 
-unfoldable pub executedOf : Record → Effect → Executed
-executedOf r (goesOn s after) = record { end = GoesOn; after = s }
-executedOf r (exits exit s after) = record { end = exitEnd exit; after = s }
-executedOf r (faults fault) = record { end = Fails fault; after = r }
-executedOf r unlisted = record { end = Unlisted; after = r }
+-- how an instruction ended, and the record afterwards
+pub record Ended : Type 0 where
+  pub end : End
+  pub rec : Record
+
+abbrev pub after : Record → Executed → Ended
+after r x = record { end = x .end; rec = applied r (x .writes) (x .place) }
+
+unfoldable pub executedOf : Record → Effect → Ended
+executedOf r (goesOn s ram) = record { end = GoesOn; rec = s }
+executedOf r (exits exit s ram) = record { end = exitEnd exit; rec = s }
+executedOf r (faults fault) = record { end = Fails fault; rec = r }
+executedOf r unlisted = record { end = Unlisted; rec = r }
 
 unfoldable pub effectRam : List ℕ → Effect → List ℕ
 effectRam ram (goesOn r after) = after
@@ -33,16 +41,16 @@ effectRam ram unlisted = ram
 
 -- the instruction that has the effect e
 abbrev pub Executes : Record → List ℕ → Effect → Executed → List ℕ → Type 0
-Executes r ram e x after = (x ≡ executedOf r e) × (after ≡ effectRam ram e)
+Executes r ram e x left = (after r x ≡ executedOf r e) × (left ≡ effectRam ram e)
 
 -- whatever RAM is
 abbrev pub ExecutesAny : Record → (List ℕ → Effect) → Executed → Type 0
-ExecutesAny r e x = (ram : List ℕ) → x ≡ executedOf r (e ram)
+ExecutesAny r e x = (ram : List ℕ) → after r x ≡ executedOf r (e ram)
 
 -- done, and it ends so at a place; or a fault was met
-unfoldable pub endedBy : End → Record → ℕ → Did → Executed
-endedBy end r place (did.Writes w) = record { end = end; after = applied r w place }
-endedBy end r place (did.Fails fault) = record { end = Fails fault; after = r }
+unfoldable pub endedBy : End → Record → ℕ → Did → Ended
+endedBy end r place (did.Writes w) = record { end = end; rec = applied r w place }
+endedBy end r place (did.Fails fault) = record { end = Fails fault; rec = r }
 
 abbrev pub NotData : Instruction → Type 0
 NotData i = (operation : Operation) → i ≡ Data operation → ⊥

@@ -3,7 +3,7 @@ use Prim.Native.Nat.{ℕ}
 use mathlib.Core.List.{List}
 use mathlib.Core.Path.{_≡_}
 use Rattle.state.specs.declared.Record.{Record}
-use Rattle.admission.specs.RunRefusals.{runVerdict}
+use Rattle.admission.specs.RunRefusals.{runDecision}
 use Rattle.stop.specs.Stops.{reasonOf}
 use Rattle.plain.specs.PlainMachine.{Result}
 use Rattle.plain.specs.Calls.{callBy}
@@ -12,7 +12,7 @@ use Rattle.machine.specs.declared.Answer.{Answer}
 
 -- the plain machine's run, or the refusal
 abbrev pub runOf : List ℕ → List ℕ → ℕ → Record → List ℕ → Result
-runOf page external total r ram = callBy (runVerdict page external r ram) (instructionOf page external) total r ram
+runOf page external total r ram = callBy (runDecision page external r ram) (instructionOf page external) total r ram
 
 -- an answer and the RAM at exit, by the build paper's numbers and values
 abbrev pub seen : Answer → List ℕ → Result

@@ -2,12 +2,18 @@
 ghost use mathlib.Core.Path.{_≡_};
 ghost use Prim.Native.Nat.{_<_, _≤_};
 ghost use lib.ListN.{length};
-ghost use Rattle.branch.specs.Branches.{Near};
+ghost use lib.Dec.{eqb};
+ghost use lib.IntN.{pos};
+ghost use mathlib.Core.Bool.{not};
+ghost use Rattle.bits.specs.Fields.{bits};
+ghost use Rattle.bits.specs.Integers.{SInt};
+ghost use Rattle.arm.specs.Conditions.{conditionHolds};
+ghost use Rattle.branch.specs.Branches.{Near, targetOf};
 ghost use Rattle.plain.specs.PlainMachine.{unlisted, plain};
 ghost use Rattle.place.specs.Places.{instructionAt, following};
-ghost use Rattle.instruction.specs.Instructions as instructions;
 ghost use Rattle.instruction.specs.Instructions.{branchTo, branchIf, exitOf, served, effectOf, instructionOf};
-ghost use Rattle.machine.specs.Executed.{exitEnd, executedOf, endedBy, NotData, Executes, ExecutesAny};
+ghost use Rattle.state.specs.Record.{register, withPlace};
+ghost use Rattle.machine.specs.Executed.{after, exitEnd, executedOf, endedBy, NotData, Executes, ExecutesAny};
 ghost use Rattle.machine.specs.Runs.{seen, Gives};
 use access::Did;
 use branch::Target;
@@ -18,6 +24,7 @@ use service::Ending;
 use state::Record;
 use stop::Stop;
 use writing::Write;
+use writing::Writes;
 
 // How an instruction ended.
 enum End {
@@ -31,9 +38,11 @@ enum End {
     Unlisted,
 }
 
+// What an instruction comes to: its end, what it writes, and the place where the run then stands.
 struct Executed {
     end: End,
-    after: Record,
+    writes: Writes,
+    place: u16,
 }
 
 // What a run gives.
@@ -45,30 +54,36 @@ pub struct Answer {
 
 // ---- where an instruction goes
 
+// Nothing is written; it ends so at a place.
+fn moved(r: Record, end: End, place: u16) -> Executed
+    ensures { λ x. ⌜ after r x ≡ record { end = end; rec = withPlace r place } ⌝ }
+{
+    Executed {
+        end,
+        writes: writing::writes_nothing(r),
+        place,
+    }
+}
+
 // What was done ends so at a place, unless a fault was met.
 fn ended(r: Record, d: Did, end: End, place: u16) -> Executed
-    ensures { λ x. ⌜ x ≡ endedBy end r place d ⌝ }
+    ensures { λ x. ⌜ after r x ≡ endedBy end r place d ⌝ }
 {
     match d {
         Did::Writes(w) => Executed {
             end,
-            after: writing::applied(r, w, place),
+            writes: w,
+            place,
         },
-        Did::Fails(fault) => Executed {
-            end: End::Fails(fault),
-            after: r,
-        },
+        Did::Fails(fault) => moved(r, End::Fails(fault), r.place),
     }
 }
 
 // What is unlisted changes nothing.
 fn unlisted(r: Record) -> Executed
-    ensures { λ x. ⌜ x ≡ executedOf r unlisted ⌝ }
+    ensures { λ x. ⌜ after r x ≡ executedOf r unlisted ⌝ }
 {
-    Executed {
-        end: End::Unlisted,
-        after: r,
-    }
+    moved(r, End::Unlisted, r.place)
 }
 
 // The place behind the instruction.
@@ -86,10 +101,7 @@ fn branch_to(r: Record, t: Target) -> Executed
 {
     match t {
         Target::Bad => unlisted(r),
-        Target::At(b) => Executed {
-            end: End::GoesOn,
-            after: state::set_place(r, (2 * b) as u16),
-        },
+        Target::At(b) => moved(r, End::GoesOn, (2 * b) as u16),
     }
 }
 
@@ -101,52 +113,49 @@ fn branch_if(taken: bool, r: Record, next: u16, t: Target) -> Executed
     if taken {
         return branch_to(r, t);
     }
-    Executed {
-        end: End::GoesOn,
-        after: state::set_place(r, next),
-    }
+    moved(r, End::GoesOn, next)
 }
 
-fn cbz(page: &[u8], imm6: u8, n: u8, r: Record) -> Executed
+fn cbz(imm6: u8, n: u8, r: Record, next: u16) -> Executed
     requires { ⌜ r .place < 128 ⌝ }
-    ensures { λ x. ⌜ ExecutesAny r (instructions.cbz (now (page .entry)) imm6 n r) x ⌝ }
+    ensures { λ x. ⌜ ExecutesAny r (λ m. branchIf (eqb (register r n) 0) r m next (targetOf (r .place) (pos imm6))) x ⌝ }
 {
     branch_if(
         state::register_of(r, n) == 0,
         r,
-        next_place(page, r.place),
+        next,
         branch::compare_target(r.place, imm6),
     )
 }
 
-fn cbnz(page: &[u8], imm6: u8, n: u8, r: Record) -> Executed
+fn cbnz(imm6: u8, n: u8, r: Record, next: u16) -> Executed
     requires { ⌜ r .place < 128 ⌝ }
-    ensures { λ x. ⌜ ExecutesAny r (instructions.cbnz (now (page .entry)) imm6 n r) x ⌝ }
+    ensures { λ x. ⌜ ExecutesAny r (λ m. branchIf (not (eqb (register r n) 0)) r m next (targetOf (r .place) (pos imm6))) x ⌝ }
 {
     branch_if(
         state::register_of(r, n) != 0,
         r,
-        next_place(page, r.place),
+        next,
         branch::compare_target(r.place, imm6),
     )
 }
 
-fn bcc(page: &[u8], condition: u8, imm8: u8, r: Record) -> Executed
+fn bcc(condition: u8, imm8: u8, r: Record, next: u16) -> Executed
     requires { ⌜ r .place < 128 ⌝ }
-    ensures { λ x. ⌜ ExecutesAny r (instructions.bcc (now (page .entry)) condition imm8 r) x ⌝ }
+    ensures { λ x. ⌜ ExecutesAny r (λ m. branchIf (conditionHolds condition (r .flags)) r m next (targetOf (r .place) (SInt 8 imm8))) x ⌝ }
 {
     let flags = r.flags;
     branch_if(
         arm::condition_holds(condition, flags),
         r,
-        next_place(page, r.place),
+        next,
         branch::conditional_target(r.place, imm8),
     )
 }
 
 fn b(imm11: u16, r: Record) -> Executed
     requires { ⌜ r .place < 128 ⌝ }
-    ensures { λ x. ⌜ ExecutesAny r (instructions.b imm11 r) x ⌝ }
+    ensures { λ x. ⌜ ExecutesAny r (λ m. branchTo r m (targetOf (r .place) (SInt 11 (bits imm11 10 0)))) x ⌝ }
 {
     branch_to(r, branch::branch_target(r.place, imm11))
 }
@@ -167,20 +176,19 @@ fn exit_end(page: &[u8], n: u8) -> End
     }
 }
 
-// The service with the low byte n. A terminator keeps its place, any other moves on.
-fn serve(page: &[u8], external: &[u8], n: u8, r: Record, ram: &mut [u8]) -> Executed
-    requires { ⌜ r .place < 128 ⌝ }
+// The service with the low byte n, and the place behind it. A terminator keeps its place, any other moves on.
+fn serve(page: &[u8], external: &[u8], n: u8, r: Record, ram: &mut [u8], behind: u16) -> Executed
+    requires { ⌜ behind ≡ following (now page) (r .place) ⌝ }
     ensures { λ x. ⌜ Executes r (now (ram .entry)) (served (now (page .entry)) (now (external .entry)) r (now (ram .entry)) n) x (now (ram .exit)) ⌝ }
 {
     let s = service::service_of(page, n);
-    let next = next_place(page, r.place);
     match service::ending_of(s) {
-        Ending::GoesOn => ended(r, effects::serve(external, s, r, ram), End::GoesOn, next),
+        Ending::GoesOn => ended(r, effects::serve(external, s, r, ram), End::GoesOn, behind),
         Ending::Exit => ended(
             r,
             effects::serve(external, s, r, ram),
             exit_end(page, n),
-            next,
+            behind,
         ),
         Ending::LastExit => ended(
             r,
@@ -199,19 +207,20 @@ fn perform(page: &[u8], external: &[u8], i: Instruction, r: Record, ram: &mut [u
     requires { ⌜ (r .place < 128) × NotData i ⌝ }
     ensures { λ x. ⌜ Executes r (now (ram .entry)) (effectOf (now (page .entry)) (now (external .entry)) r (now (ram .entry)) i) x (now (ram .exit)) ⌝ }
 {
+    let next = next_place(page, r.place);
     match i {
         Instruction::Data(_) => unlisted(r),
         Instruction::Memory(access) => ended(
             r,
             access::perform(page, external, access, r, ram),
             End::GoesOn,
-            next_place(page, r.place),
+            next,
         ),
-        Instruction::Cbz(imm6, n) => cbz(page, imm6, n, r),
-        Instruction::Cbnz(imm6, n) => cbnz(page, imm6, n, r),
-        Instruction::Bcc(condition, imm8) => bcc(page, condition, imm8, r),
+        Instruction::Cbz(imm6, n) => cbz(imm6, n, r, next),
+        Instruction::Cbnz(imm6, n) => cbnz(imm6, n, r, next),
+        Instruction::Bcc(condition, imm8) => bcc(condition, imm8, r, next),
         Instruction::B(imm11) => b(imm11, r),
-        Instruction::Service(n) => serve(page, external, n, r, ram),
+        Instruction::Service(n) => serve(page, external, n, r, ram, next),
         Instruction::Unlisted => unlisted(r),
     }
 }
@@ -260,16 +269,14 @@ fn run_on(page: &[u8], external: &[u8], start: Record, ram: &mut [u8], budget: u
         } else {
             let x = execute(page, external, i, r, ram);
             let end = x.end;
-            let after = x.after;
+            let writes = x.writes;
+            r = writing::applied(r, writes, x.place);
             match end {
-                End::GoesOn => {
-                    r = after;
-                    steps += 1;
-                }
-                End::Exits(n) => return stopped(Stop::Service(n), steps + 1, after),
-                End::ExitsBy(n, word) => return stopped(Stop::ServiceBy(n, word), steps + 1, after),
-                End::Fails(fault) => return stopped(Stop::Fault(fault), steps, after),
-                End::Unlisted => return stopped(Stop::Unlisted, steps, after),
+                End::GoesOn => steps += 1,
+                End::Exits(n) => return stopped(Stop::Service(n), steps + 1, r),
+                End::ExitsBy(n, word) => return stopped(Stop::ServiceBy(n, word), steps + 1, r),
+                End::Fails(fault) => return stopped(Stop::Fault(fault), steps, r),
+                End::Unlisted => return stopped(Stop::Unlisted, steps, r),
             }
         }
     }

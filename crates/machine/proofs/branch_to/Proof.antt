@@ -5,11 +5,11 @@ use borrow.Author.Needs.{needs}
 use Rattle.machine.proofs.branch_to.Statement.{statement}
 use Rattle.machine.proofs.branch_to.Tie as tie
 
-mul-set-place : tie.Need-mul-set-place
-mul-set-place c = let h = rw (c .before .t .given .1) at (c .before .before .before .pre) in omega (arith, h)
+mul-moved : tie.Need-mul-moved
+mul-moved c = let h = rw (c .before .t .given .1) at (c .before .before .before .pre) in omega (arith, h)
 
-cast-set-place : tie.Need-cast-set-place
-cast-set-place c = let h = rw (c .before .t .given .1) at (c .before .before .before .pre) in omega (arith, h)
+cast-moved : tie.Need-cast-moved
+cast-moved c = let h = rw (c .before .t .given .1) at (c .before .before .before .pre) in omega (arith, h)
 
 returns : tie.Need-returns
 unfolding branchTo
@@ -17,8 +17,8 @@ returns c = λ m. rw (c .before .enum-told .given .1) (c .unlisted .ensures)
 
 returns-2 : tie.Need-returns-2
 unfolding branchTo executedOf
-returns-2 c = λ m. rw (c .before .before .t .given .1, c .set-place .ensures)
+returns-2 c = λ m. rw (c .before .before .t .given .1) (c .moved .ensures)
 
 pub branch-to-spec : {M : Type 1} → statement M
 branch-to-spec = tie.close (tie.spec (λ c. search needs) (λ c κs. tt) (λ c. search needs)
-    mul-set-place cast-set-place (λ c κs. tt) returns returns-2)
+    mul-moved cast-moved (λ c κs. tt) returns returns-2)

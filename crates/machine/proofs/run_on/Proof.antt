@@ -35,8 +35,7 @@ loop-less : tie.Need-loop-less Inv-loop μ-loop
 loop-less c = omega arith
 
 loop-again : tie.Need-loop-again Inv-loop μ-loop
-loop-again c =
-    let kept = c .before .before .before .before .before .before .before .before .before .before .before .before .before .loop .inv in
+loop-again c = let kept = c .before .before .before .before .before .before .before .before .before .before .before .before .before .loop .inv in
     let r = c .before .before .before .before .before .before .before .before .before .before .before .before .before .loop .r in
     let w = c .before .before .compute .result .register in
     let written : c .match2 .r ≡ registered r w =
@@ -55,48 +54,48 @@ execute-requires : tie.Need-execute-requires Inv-loop μ-loop
 execute-requires c κs = (c .before .before .before .before .before .before .before .before .pre, c .before .before .instruction-at .ensures, λ operation e. other-tag (rw e at (c .before .match .keys2)))
 
 add-steps-2 : tie.Need-add-steps-2 Inv-loop μ-loop
-add-steps-2 c = omega arith
+add-steps-2 c = omega (arith, c .before .before .before .before .before .before .before .before .before .before .loop-test .taken, c .before .before .before .before .before .before .before .before .before .before .before .before .before .before .before .fits)
 
 loop-less-2 : tie.Need-loop-less-2 Inv-loop μ-loop
 loop-less-2 c = omega arith
 
 loop-again-2 : tie.Need-loop-again-2 Inv-loop μ-loop
 loop-again-2 c = (
-  turns _ _ _ _ _ _ _ _ _ (c .before .before .before .before .before .before .before .before .before .loop-test .taken) (c .before .before .before .before .before .execute .ensures) (c .enum-told2 .given .1) (c .before .before .before .before .before .before .before .before .before .before .loop .inv .0),
+  turns _ _ _ _ _ _ _ _ _ _ (c .before .before .before .before .before .before .before .before .before .before .loop-test .taken) (c .before .before .before .before .before .before .execute .ensures) (c .enum-told2 .given .1) (c .before .before .applied .ensures) (c .before .before .before .before .before .before .before .before .before .before .before .loop .inv .0),
   omega arith,
-  c .before .before .before .before .before .execute .kept .1 .1 .1 .1 .0 ∙ c .before .before .before .before .before .before .before .before .before .before .loop .inv .2,
+  c .before .before .before .before .before .before .execute .kept .1 .1 .1 .1 .0 ∙ c .before .before .before .before .before .before .before .before .before .before .before .loop .inv .2,
   search needs,
 )
 
 add-stopped : tie.Need-add-stopped Inv-loop μ-loop
-add-stopped c = omega arith
+add-stopped c = omega (arith, c .before .before .before .before .before .before .before .before .before .before .before .loop-test .taken, c .before .before .before .before .before .before .before .before .before .before .before .before .before .before .before .before .fits)
 
 same-length : tie.Need-same-length Inv-loop μ-loop
-same-length c = omega arith
+same-length c = c .before .before .before .before .before .before .before .before .execute .kept .1 .1 .1 .1 .0 ∙ c .before .before .before .before .before .before .before .before .before .before .before .before .before .loop .inv .2
 
 returns : tie.Need-returns Inv-loop μ-loop
-returns c = rw (c .stopped .ensures) (turns _ _ _ _ _ _ _ _ _ (c .before .before .before .before .before .before .before .before .before .before .before .loop-test .taken) (c .before .before .before .before .before .before .before .execute .ensures) (c .before .before .end .given .1) (c .before .before .before .before .before .before .before .before .before .before .before .before .loop .inv .0))
+returns c = rw (c .stopped .ensures) (turns _ _ _ _ _ _ _ _ _ _ (c .before .before .before .before .before .before .before .before .before .before .before .before .loop-test .taken) (c .before .before .before .before .before .before .before .before .execute .ensures) (c .before .before .end .given .1) (c .before .before .before .before .applied .ensures) (c .before .before .before .before .before .before .before .before .before .before .before .before .before .loop .inv .0))
 
 add-stopped-2 : tie.Need-add-stopped-2 Inv-loop μ-loop
-add-stopped-2 c = omega arith
+add-stopped-2 c = omega (arith, c .before .before .before .before .before .before .before .before .before .before .before .loop-test .taken, c .before .before .before .before .before .before .before .before .before .before .before .before .before .before .before .before .fits)
 
 same-length-2 : tie.Need-same-length-2 Inv-loop μ-loop
-same-length-2 c = omega arith
+same-length-2 c = c .before .before .before .before .before .before .before .before .execute .kept .1 .1 .1 .1 .0 ∙ c .before .before .before .before .before .before .before .before .before .before .before .before .before .loop .inv .2
 
 returns-2 : tie.Need-returns-2 Inv-loop μ-loop
-returns-2 c = rw (c .stopped2 .ensures) (turns _ _ _ _ _ _ _ _ _ (c .before .before .before .before .before .before .before .before .before .before .before .loop-test .taken) (c .before .before .before .before .before .before .before .execute .ensures) (c .before .before .end2 .given .1) (c .before .before .before .before .before .before .before .before .before .before .before .before .loop .inv .0))
+returns-2 c = rw (c .stopped2 .ensures) (turns _ _ _ _ _ _ _ _ _ _ (c .before .before .before .before .before .before .before .before .before .before .before .before .loop-test .taken) (c .before .before .before .before .before .before .before .before .execute .ensures) (c .before .before .end2 .given .1) (c .before .before .before .before .applied .ensures) (c .before .before .before .before .before .before .before .before .before .before .before .before .before .loop .inv .0))
 
 same-length-3 : tie.Need-same-length-3 Inv-loop μ-loop
-same-length-3 c = omega arith
+same-length-3 c = c .before .before .before .before .before .before .before .before .execute .kept .1 .1 .1 .1 .0 ∙ c .before .before .before .before .before .before .before .before .before .before .before .before .before .loop .inv .2
 
 returns-3 : tie.Need-returns-3 Inv-loop μ-loop
-returns-3 c = rw (c .stopped3 .ensures) (turns _ _ _ _ _ _ _ _ _ (c .before .before .before .before .before .before .before .before .before .before .before .loop-test .taken) (c .before .before .before .before .before .before .before .execute .ensures) (c .before .before .end3 .given .1) (c .before .before .before .before .before .before .before .before .before .before .before .before .loop .inv .0))
+returns-3 c = rw (c .stopped3 .ensures) (turns _ _ _ _ _ _ _ _ _ _ (c .before .before .before .before .before .before .before .before .before .before .before .before .loop-test .taken) (c .before .before .before .before .before .before .before .before .execute .ensures) (c .before .before .end3 .given .1) (c .before .before .before .before .applied .ensures) (c .before .before .before .before .before .before .before .before .before .before .before .before .before .loop .inv .0))
 
 same-length-4 : tie.Need-same-length-4 Inv-loop μ-loop
-same-length-4 c = omega arith
+same-length-4 c = c .before .before .before .before .before .before .before .execute .kept .1 .1 .1 .1 .0 ∙ c .before .before .before .before .before .before .before .before .before .before .before .before .loop .inv .2
 
 returns-4 : tie.Need-returns-4 Inv-loop μ-loop
-returns-4 c = rw (c .stopped4 .ensures) (turns _ _ _ _ _ _ _ _ _ (c .before .before .before .before .before .before .before .before .before .before .loop-test .taken) (c .before .before .before .before .before .before .execute .ensures) (c .before .enum-told3 .given .1) (c .before .before .before .before .before .before .before .before .before .before .before .loop .inv .0))
+returns-4 c = rw (c .stopped4 .ensures) (turns _ _ _ _ _ _ _ _ _ _ (c .before .before .before .before .before .before .before .before .before .before .before .loop-test .taken) (c .before .before .before .before .before .before .before .execute .ensures) (c .before .enum-told3 .given .1) (c .before .before .before .applied .ensures) (c .before .before .before .before .before .before .before .before .before .before .before .before .loop .inv .0))
 
 same-length-5 : tie.Need-same-length-5 Inv-loop μ-loop
 same-length-5 c = omega arith
@@ -106,9 +105,9 @@ returns-5 c = rw (c .stopped5 .ensures) (sym (spent _ _ _ _ _ (omega arith)) ∙
 
 pub run-on-spec : {M : Type 1} → statement M
 run-on-spec = tie.close (tie.spec Inv-loop μ-loop loop-holds (λ c κs. tt) (λ c. search needs)
-    next-place-requires (λ c κs. tt) (λ c. search needs) (λ c κs. tt) (λ c. search needs) add-steps
-    loop-less loop-again execute-requires (λ c. search needs) add-steps-2 loop-less-2 loop-again-2
-    (λ c. search needs) add-stopped (λ c κs. tt) same-length returns (λ c. search needs)
-    add-stopped-2 (λ c κs. tt) same-length-2 returns-2 (λ c. search needs) (λ c κs. tt)
-    same-length-3 returns-3 (λ c. search needs) (λ c κs. tt) same-length-4 returns-4 (λ c κs. tt)
-    same-length-5 returns-5)
+    next-place-requires (λ c κs. tt) (λ c. search needs) (λ c κs. tt) (λ c. search needs)
+    add-steps loop-less loop-again execute-requires (λ c κs. tt) (λ c. search needs) add-steps-2
+    loop-less-2 loop-again-2 (λ c. search needs) add-stopped (λ c κs. tt) same-length returns
+    (λ c. search needs) add-stopped-2 (λ c κs. tt) same-length-2 returns-2 (λ c. search needs)
+    (λ c κs. tt) same-length-3 returns-3 (λ c. search needs) (λ c κs. tt) same-length-4 returns-4
+    (λ c κs. tt) same-length-5 returns-5)
