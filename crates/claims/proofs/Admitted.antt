@@ -3,33 +3,42 @@
 use Prim.Native.Nat.{ℕ, _*_, _<_}
 use native.Mathlib.Omega.{arith}
 use mathlib.Core.Bool.{true}
-use mathlib.Core.List.{List}
+use mathlib.Core.List.{List, []}
 use mathlib.Core.Path.{_≡_, refl}
 use lib.ListN.{length}
 use borrow.Author.Tests.{le-ltb, eq-eqb}
-use Rattle.refusal.specs.declared.Refusal.the-variants.{UnfitPlace}
-use Rattle.refusal.specs.declared.Verdict.the-variants.{Accepted, Refused}
-use Rattle.page.specs.Page.{pageFits}
+use Rattle.refusal.specs.Refusals.{accepted, refused}
 use Rattle.count.specs.Count.{countOf}
 use Rattle.state.specs.Record.{freshRecord, withPlace, fitRecord}
-use Rattle.state.specs.Validation.{externalFits}
 use Rattle.place.specs.Places.{fitPlace}
 use Rattle.instruction.proofs.FitPlaces.{bundle-fits}
-use Rattle.admission.specs.RunRefusals.{runVerdict}
+use Rattle.admission.specs.RunRefusals.{runDecision}
 use Rattle.admission.proofs.Theorems.{accepts}
+use Rattle.claims.specs.Demand3.{Setting, Allowed, FitStart}
 
 fresh-fits : (k external : ℕ) → fitRecord (withPlace freshRecord k) external ≡ true
 unfolding fitRecord withPlace
 fresh-fits k external = refl
 
--- the fresh record at any bundle below the count, with any RAM of its size and any external data of an allowed length
-pub admitted : (page external ram : List ℕ) → pageFits page ≡ true → externalFits (length external) ≡ true → length ram ≡ 32768
-    → (k : ℕ) → k < countOf page → runVerdict page external (withPlace freshRecord (2 * k)) ram ≡ Accepted
+-- a series may start from the fresh record at any bundle below the count, with any RAM of its size
+pub fresh-starts : (setting : Setting) → Allowed setting → (ram : List ℕ) → length ram ≡ 32768
+    → (k : ℕ) → k < countOf (setting .page) → FitStart setting (record { rec = withPlace freshRecord (2 * k); ram = ram })
 unfolding withPlace
-admitted page external ram p e n k l =
-    accepts page external (withPlace freshRecord (2 * k)) ram p n e (fresh-fits (2 * k) (length external)) (bundle-fits page p k l)
+fresh-starts setting allowed ram n k l = record {
+  recordFits = fresh-fits (2 * k) (length (setting .external));
+  placeFits = bundle-fits (setting .page) (allowed .pageAllowed) k l;
+  ramFits = n;
+}
 
-pub none-admitted : (page external ram : List ℕ) → pageFits page ≡ true → externalFits (length external) ≡ true → length ram ≡ 32768
-    → countOf page ≡ 0 → runVerdict page external freshRecord ram ≡ Refused UnfitPlace
-unfolding runVerdict fitRecord fitPlace
-none-admitted page external ram p e n z = rw (p, eq-eqb _ _ n, e, le-ltb 0 (countOf page) (omega (arith, z)))
+-- and so a call from there is not refused
+pub admitted : (setting : Setting) → Allowed setting → (ram : List ℕ) → length ram ≡ 32768
+    → (k : ℕ) → k < countOf (setting .page) → runDecision (setting .page) (setting .external) (withPlace freshRecord (2 * k)) ram ≡ accepted
+admitted setting allowed ram n k l =
+    let f = fresh-starts setting allowed ram n k l in
+    accepts _ _ _ ram (allowed .pageAllowed) n (allowed .externalAllowed) (f .recordFits) (f .placeFits)
+
+pub none-admitted : (setting : Setting) → Allowed setting → (ram : List ℕ) → length ram ≡ 32768
+    → countOf (setting .page) ≡ 0 → runDecision (setting .page) (setting .external) freshRecord ram ≡ refused 5 []
+unfolding runDecision fitRecord fitPlace
+none-admitted setting allowed ram n z =
+    rw (allowed .pageAllowed, eq-eqb _ _ n, allowed .externalAllowed, le-ltb 0 (countOf (setting .page)) (omega (arith, z)))

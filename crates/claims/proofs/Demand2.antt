@@ -1,25 +1,99 @@
--- Demand 2 is met.
-use Prim.Native.Nat.{ℕ}
+-- Demand 2 is met, by every call of `count` and of `read_bundle` that meets its contract as the checker reads it.
+use Prim.Native.Nat.{ℕ, suc, max}
+use native.Mathlib.Nat.{le-refl}
 use native.Mathlib.Omega.{arith}
-use mathlib.Core.Path.{_≡_}
-use mathlib.Core.Bool.{true}
-use mathlib.Core.List.{List}
+use mathlib.Core.Path.{_≡_, refl, _∙_}
+use mathlib.Core.Bool.{Bool, true, false}
+use mathlib.Core.List.{List, [], _∷_}
+use mathlib.Core.Logic.{_⊎_, inl, inr, ⊎-elim}
+use lib.Dec.{ltb}
+use borrow.Author.Tests.{ltb-true, ltb-false, lt-ltb, lt-leb, le-leb}
+use contract.Lifetimes.{Lfts}
+use borrow.Fn.World.{ArgsD, ResD}
+use borrow.Fn.Kinds.{endedOf}
+use denote.Triple.Clauses.{AtExit}
+use denote.Ref.{now}
 use Rattle.page.specs.Page.{pageFits, bundlesIn}
 use Rattle.page.proofs.Theorems.{fitting}
-use Rattle.prefix.proofs.Theorems.{unique, definition, single-pass-is, iterates-is}
+use Rattle.prefix.specs.Prefix.{Successors, bad, goes, AllBelow}
+use Rattle.prefix.specs.LargestSuccessor.{largestOf, largestSuccessor}
+use Rattle.prefix.proofs.Theorems.{true-within, largest-within, unique, definition, single-pass-is, iterates-is}
 use Rattle.bundle.specs.Successors.{successorsOf}
-use Rattle.count.specs.Count.{countOf}
-use Rattle.claims.specs.Demand2.{IsCount}
+use Rattle.bundle.specs.Reader.{ReaderAnswer, readBundle, seenRead}
+use Rattle.bundle.proofs.read_bundle
+use Rattle.bundle.proofs.read_bundle.Kinds as read-kinds
+use Rattle.bundle.proofs.read_bundle.Reads as read-reads
+use Rattle.count.specs.Count.{countOf, CountAnswer, countPage, seenCount}
+use Rattle.count.proofs.count
+use Rattle.count.proofs.count.Kinds as count-kinds
+use Rattle.count.proofs.count.Reads as count-reads
+use Rattle.claims.specs.Demand2.{IsCount, Counts, OneOf, Says, Reads}
 
-pub demand2 : (page : List ℕ) → pageFits page ≡ true → IsCount page (countOf page)
-demand2 page fits =
+-- ---- the count
+
+is-count : (page : List ℕ) → pageFits page ≡ true → IsCount page (countOf page)
+is-count page fits =
     let g = definition (successorsOf page) (bundlesIn page) in
     let f = fitting page fits in
     record {
-      answered = rw fits;
       greatest = g;
       at-most = omega (arith, g .inside);
       only = λ n h. unique (successorsOf page) h g;
       by-single-pass = single-pass-is (successorsOf page) (bundlesIn page);
       by-iteration = iterates-is (successorsOf page) (bundlesIn page);
     }
+
+counts : (page : List ℕ) (a : CountAnswer) → a ≡ countPage page → Counts page a
+counts page a e = record {
+  allowed = λ fits. rw (e, fits) (refl, is-count page fits);
+  not-allowed = λ fits. rw (e, fits) (refl, refl);
+}
+
+-- ---- the reader
+
+-- the larger of two is one of them
+either : (s t : ℕ) → (max s t ≡ s) ⊎ (max s t ≡ t)
+either s t = go (ltb s t) refl
+  where
+    go : (less : Bool) → ltb s t ≡ less → (max s t ≡ s) ⊎ (max s t ≡ t)
+    go true e = inr (omega (arith, ltb-true s t e))
+    go false e = inl (omega (arith, ltb-false s t e))
+
+largest-one : (s : ℕ) (ss : List ℕ) → OneOf (largestOf s ss) (s ∷ ss)
+largest-one s [] = inl refl
+largest-one s (t ∷ ts) =
+    ⊎-elim (λ e. ⊎-elim (λ f. inl (e ∙ f)) (λ f. inr (inl (e ∙ f))) (either s t)) (λ h. inr (inr h)) (largest-one (max s t) ts)
+
+none-above : (s : ℕ) (ss : List ℕ) → AllBelow (suc (largestOf s ss)) (s ∷ ss)
+none-above s ss =
+    let n = largestOf s ss in
+    true-within (suc n) (goes (s ∷ ss)) (largest-within (suc n) s ss ∙ lt-ltb n (suc n) (le-refl (suc n)))
+
+says : (x : Successors) → Says (largestSuccessor x) x
+says bad = refl
+says (goes []) = refl
+says (goes (s ∷ ss)) = (s ∷ ss, refl, largest-one s ss, none-above s ss)
+
+reads : (page : List ℕ) (k : ℕ) (a : ReaderAnswer) → a ≡ readBundle page k → Reads page k a
+reads page k a e = record {
+  inside = λ fits l. rw (e, fits, lt-leb (bundlesIn page) k l) (refl, says (successorsOf page k));
+  past = λ fits l. rw (e, fits, le-leb (bundlesIn page) k l) (refl, refl);
+  not-allowed = λ fits. rw (e, fits) (refl, refl);
+}
+
+-- ---- the demand
+
+pub record Demand2 : Type 1 where
+  -- every call of `count`: its page, its answer
+  pub counted : (κs : Lfts 1) (a : ArgsD count.signature κs) (x : ResD count.signature κs)
+      (s : AtExit (endedOf 1 count-kinds.ps count-kinds.r) κs) → count-reads.Post κs a x s → Counts (now (a .0)) (seenCount x)
+  -- every call of `read_bundle`: its page, the number of its bundle, its answer
+  pub read : (κs : Lfts 1) (a : ArgsD read_bundle.signature κs) (x : ResD read_bundle.signature κs)
+      (s : AtExit (endedOf 1 read-kinds.ps read-kinds.r) κs) → read-reads.Post κs a x s
+      → Reads (now (a .0)) (a .1 .0) (seenRead x)
+
+pub demand2 : Demand2
+demand2 = record {
+  counted = λ κs a x s h. counts (now (a .0)) (seenCount x) h;
+  read = λ κs a x s h. reads (now (a .0)) (a .1 .0) (seenRead x) h;
+}

@@ -1,37 +1,41 @@
 -- Demand 3 is met, by every series of the code's calls.
-use Prim.Native.Nat.{ℕ}
-use mathlib.Core.Bool.{true}
-use mathlib.Core.List.{List, [], _∷_}
+use mathlib.Core.List.{List}
 use mathlib.Core.Path.{_≡_}
-use lib.ListN.{length}
-use Rattle.page.specs.Page.{pageFits}
-use Rattle.state.specs.Record.{fitRecord}
-use Rattle.state.specs.Validation.{externalFits}
-use Rattle.state.specs.declared.Record.{Record}
-use Rattle.place.specs.Places.{fitPlace}
-use Rattle.series.specs.Series.{Series, Demand3}
+use Rattle.plain.specs.PlainMachine.{Result}
+use Rattle.series.specs.HandedOn.{InSeries}
+use Rattle.series.specs.Machine.{Handed, called}
+use Rattle.series.specs.Series.{State, Series}
+use Rattle.series.specs.Demand3.{Demand3}
 use Rattle.series.proofs.Theorems as series
-use Rattle.instruction.specs.Fitness.{Fit, Starts, ServiceAt, Known}
+use Rattle.instruction.specs.Fitness.{Fit}
 use Rattle.instruction.proofs.Kept.{keeps, starts}
 use Rattle.admission.proofs.Theorems.{accepts}
-use Rattle.claims.specs.Demand3.{Setting, instructionIn, verdictIn, CodeCall, asCalls, CodeSeries}
+use Rattle.claims.specs.Demand3.{Setting, Allowed, FitStart, machineOf, CodeCall, ofRun, ofStep, handedTo, gaveBy, machine}
 
--- ---- the code's calls
+-- with any calls that give what the plain machine, or the refusal, gives
+pub demand3-of : (Call : Type 0) (handed : Call → Handed Setting) (gave : Call → Result)
+    → ((setting : Setting) (c : Call) → gave c ≡ called (machineOf Call handed gave setting) (handed c))
+    → (setting : Setting) → Allowed setting → (start : State) → FitStart setting start
+    → (calls : List (InSeries Call)) → Series (machineOf Call handed gave setting) calls start
+    → Demand3 (machineOf Call handed gave setting) calls start
+demand3-of Call handed gave meets setting allowed start fit calls h =
+    let page = setting .page in
+    let external = setting .external in
+    series.demand3 (machineOf Call handed gave setting) (Fit page external)
+    (record {
+      keeps = keeps page external (allowed .pageAllowed);
+      starts = starts page external (allowed .pageAllowed);
+      accepts = λ budget r ram f.
+          accepts page external r ram (allowed .pageAllowed) (f .ramFits) (allowed .externalAllowed) (f .recordFits) (f .placeFits);
+      meets = meets setting;
+    })
+    calls start fit h
 
-as-series : (s : Setting) (os : List CodeCall) (r : Record) (ram : List ℕ) → CodeSeries s os r ram
-    → Series Setting instructionIn verdictIn s (asCalls os) r ram
-as-series s [] r ram h = tt
-as-series s (o ∷ os) r ram h = (h .0, h .1, as-series s os _ _ (h .2))
+-- the contracts of `run` and `step` are what the plain machine, or the refusal, gives
+meets : (setting : Setting) (c : CodeCall) → gaveBy c ≡ called (machine setting) (handedTo c)
+meets setting (ofRun κs a x s contract) = contract
+meets setting (ofStep κs a x s contract) = contract
 
--- ---- the demand
-
--- from a page and external data of allowed lengths, a fit record with a fit place, and any RAM of its size
-pub demand3 : (s : Setting) → pageFits (s .page) ≡ true → externalFits (length (s .external)) ≡ true
-    → (r : Record) (ram : List ℕ) → fitRecord r (length (s .external)) ≡ true → fitPlace (s .page) (r .place) ≡ true
-    → length ram ≡ 32768
-    → (os : List CodeCall) → CodeSeries s os r ram
-    → Demand3 Setting instructionIn verdictIn (Starts (s .page)) (ServiceAt (s .page)) Known s (asCalls os) r ram
-demand3 s p e r ram f g n os h =
-    series.demand3 Setting instructionIn verdictIn s (Fit (s .page) (s .external)) (Starts (s .page)) (ServiceAt (s .page)) Known
-    (keeps (s .page) (s .external) p) (starts (s .page) (s .external) p) (λ t m h. accepts (s .page) (s .external) t m p (h .ramFits) e (h .recordFits) (h .placeFits))
-    (asCalls os) r ram (record { recordFits = f; placeFits = g; ramFits = n }) (as-series s os r ram h)
+pub demand3 : (setting : Setting) → Allowed setting → (start : State) → FitStart setting start
+    → (calls : List (InSeries CodeCall)) → Series (machine setting) calls start → Demand3 (machine setting) calls start
+demand3 = demand3-of CodeCall handedTo gaveBy meets

@@ -1,5 +1,4 @@
 pub mod Admitted
-pub mod Contracts
 pub mod Demand2
 pub mod Demand3
 pub mod Examples

@@ -1,16 +1,21 @@
--- Demand 2, the count: what is claimed of a number, for a page.
-use Prim.Native.Nat.{ℕ, _≤_}
+-- Demand 2, the count and the reader: what is claimed of their answers.
+use Prim.Native.Nat.{ℕ, suc, _≤_, _<_}
 use mathlib.Core.Path.{_≡_}
-use mathlib.Core.List.{List}
-use Rattle.page.specs.Page.{bundlesIn}
-use Rattle.prefix.specs.Prefix.{Greatest, singlePass, iterated}
+use mathlib.Core.Bool.{true, false}
+use mathlib.Core.List.{List, [], _∷_}
+use mathlib.Core.Logic.{_⊎_}
+use Rattle.refusal.specs.Refusals.{accepted, refused}
+use Rattle.page.specs.Page.{pageFits, bundlesIn}
+use Rattle.prefix.specs.Prefix.{Successors, bad, goes, AllBelow, Greatest, singlePass, iterated}
+use Rattle.prefix.specs.LargestSuccessor.{Reading, badBundle, noSuccessor, largest}
 use Rattle.bundle.specs.Successors.{successorsOf}
-use Rattle.count.specs.Count.{countPage}
+use Rattle.bundle.specs.Reader.{ReaderAnswer}
+use Rattle.count.specs.Count.{CountAnswer}
+
+-- ---- the count
 
 -- what is claimed of a number, for a page
 pub record IsCount (page : List ℕ) (m : ℕ) : Type 0 where
-  -- it is what the code answers
-  pub answered : countPage page .count ≡ m
   -- every bundle below it is allowed and all its successors lie below it; no larger prefix up to the page's bundles has this
   pub greatest : Greatest (successorsOf page) (bundlesIn page) m
   -- it lies from 0 to 64
@@ -20,3 +25,28 @@ pub record IsCount (page : List ℕ) (m : ℕ) : Type 0 where
   -- document 000's single pass and its iterated form give it
   pub by-single-pass : singlePass (successorsOf page) (bundlesIn page) ≡ m
   pub by-iteration : iterated (successorsOf page) (bundlesIn page) ≡ m
+
+-- of an answer: a page of an allowed length is accepted and counted; any other is refused with 1, and its count is 0
+pub record Counts (page : List ℕ) (a : CountAnswer) : Type 0 where
+  pub allowed : pageFits page ≡ true → (a .decision ≡ accepted) × IsCount page (a .count)
+  pub not-allowed : pageFits page ≡ false → (a .decision ≡ refused 1 []) × (a .count ≡ 0)
+
+-- ---- the reader
+
+-- n is one of them
+abbrev pub OneOf : ℕ → List ℕ → Type 0
+OneOf n [] = ⊥
+OneOf n (s ∷ ss) = (n ≡ s) ⊎ OneOf n ss
+
+-- what the reader's answer says of a bundle: it is bad; it has no successor; the largest is n, one of them and none above it
+abbrev pub Says : Reading → Successors → Type 0
+Says badBundle x = x ≡ bad
+Says noSuccessor x = x ≡ goes []
+Says (largest n) x = (ss : List ℕ) × (x ≡ goes ss) × OneOf n ss × AllBelow (suc n) ss
+
+-- of an answer: a bundle of a page of an allowed length is read; one past the page is refused with 8, any of another page with 1,
+-- and is bad
+pub record Reads (page : List ℕ) (k : ℕ) (a : ReaderAnswer) : Type 0 where
+  pub inside : pageFits page ≡ true → k < bundlesIn page → (a .decision ≡ accepted) × Says (a .reading) (successorsOf page k)
+  pub past : pageFits page ≡ true → bundlesIn page ≤ k → (a .decision ≡ refused 8 []) × (a .reading ≡ badBundle)
+  pub not-allowed : pageFits page ≡ false → (a .decision ≡ refused 1 []) × (a .reading ≡ badBundle)

@@ -1,56 +1,87 @@
--- What demand 3 speaks of: what a call takes, the code's calls, and a series of them.
+-- What demand 3 speaks of: the machine of the build paper, with the code's own calls.
 use Prim.Native.Nat.{ℕ}
-use mathlib.Core.List.{List, [], _∷_}
-use Rattle.refusal.specs.declared.Verdict.{Verdict}
-use Rattle.state.specs.declared.Record.{Record}
-use Rattle.plain.specs.PlainMachine.{Effect}
-use Rattle.series.specs.Series.{Role, standingRecord, standingRam, SeriesCall, HandedBy}
+use contract.Lifetimes.{Lfts}
+use borrow.Fn.World.{ArgsD, ResD}
+use borrow.Fn.Kinds.{endedOf}
+use denote.Triple.Clauses.{AtExit}
+use denote.Ref.{now}
+use mathlib.Core.Bool.{true}
+use mathlib.Core.List.{List}
+use mathlib.Core.Path.{_≡_}
+use lib.ListN.{length}
+use Rattle.page.specs.Page.{pageFits}
+use Rattle.state.specs.Validation.{externalFits}
+use Rattle.plain.specs.PlainMachine.{Result}
+use Rattle.series.specs.Machine.{Handed, Machine}
+use Rattle.series.specs.Series.{State}
 use Rattle.instruction.specs.Instructions.{instructionOf}
-use Rattle.admission.specs.RunRefusals.{runVerdict}
-use Rattle.machine.specs.Runs.{seen, Gives}
-use Rattle.machine.specs.declared.Answer.{Answer}
+use Rattle.instruction.specs.Fitness.{Fit, Starts, ServiceAt, Known}
+use Rattle.admission.specs.RunRefusals.{runDecision}
+use Rattle.machine.specs.Runs.{seen}
+use Rattle.machine.proofs.run as run
+use Rattle.machine.proofs.run.Kinds as run-kinds
+use Rattle.machine.proofs.run.Reads as run-reads
+use Rattle.machine.proofs.step as step
+use Rattle.machine.proofs.step.Kinds as step-kinds
+use Rattle.machine.proofs.step.Reads as step-reads
 
 -- what a call takes beside its budget, the record and RAM
 pub record Setting : Type 0 where
   pub page : List ℕ
   pub external : List ℕ
 
-abbrev pub instructionIn : Setting → Record → List ℕ → Effect
-instructionIn s r ram = instructionOf (s .page) (s .external) r ram
+-- none of it refused by the papers
+pub record Allowed (s : Setting) : Type 0 where
+  pub pageAllowed : pageFits (s .page) ≡ true
+  pub externalAllowed : externalFits (length (s .external)) ≡ true
 
-abbrev pub verdictIn : Setting → Record → List ℕ → Verdict
-verdictIn s r ram = runVerdict (s .page) (s .external) r ram
+-- what a series may start from: a fit record with a fit place, and RAM of its size
+abbrev pub FitStart : Setting → State → Type 0
+FitStart setting start = Fit (setting .page) (setting .external) (start .rec) (start .ram)
+
+-- the build paper's machine, with any calls, of which a series' own get this setting
+abbrev pub machineOf : (Call : Type 0) → (Call → Handed Setting) → (Call → Result) → Setting → Machine
+machineOf Call handed gave setting = record {
+  Setting = Setting;
+  setting = setting;
+  instruction = λ s. instructionOf (s .page) (s .external);
+  decision = λ s. runDecision (s .page) (s .external);
+  Starts = Starts (setting .page);
+  ServiceAt = ServiceAt (setting .page);
+  Known = Known;
+  Call = Call;
+  handed = handed;
+  gave = gave;
+}
 
 -- ---- the code's calls
 
--- what `run`, or `step` with budget 1, was handed, its answer, and RAM at its exit
-pub record CodeCall : Type 0 where
-  pub role : Role
-  pub setting : Setting
-  pub total : ℕ
-  pub rec : Record
-  pub ram : List ℕ
-  pub answer : Answer
-  pub after : List ℕ
+-- a call of `run` or `step` as the checker reads it: the arguments (page, RAM, external data, record and, for `run`, the budget),
+-- the answer, what is lent at exit, and all that is known of them: the contract
+pub data CodeCall : Type 0 where
+  ofRun : (κs : Lfts 3) (a : ArgsD run.signature κs) (x : ResD run.signature κs) (s : AtExit (endedOf 3 run-kinds.ps run-kinds.r) κs)
+      → run-reads.Post κs a x s → CodeCall
+  ofStep : (κs : Lfts 3) (a : ArgsD step.signature κs) (x : ResD step.signature κs) (s : AtExit (endedOf 3 step-kinds.ps step-kinds.r) κs)
+      → step-reads.Post κs a x s → CodeCall
 
-abbrev pub asCall : CodeCall → SeriesCall Setting instructionIn verdictIn
-asCall o = record {
-  role = o .role;
-  setting = o .setting;
-  total = o .total;
-  rec = o .rec;
-  ram = o .ram;
-  gave = seen (o .answer) (o .after);
+abbrev pub handedTo : CodeCall → Handed Setting
+handedTo (ofRun κs a x s contract) = record {
+  setting = record { page = now (a .0); external = now (a .1 .1 .0) };
+  budget = a .1 .1 .1 .1 .0;
+  rec = a .1 .1 .1 .0;
+  ram = now (a .1 .0);
+}
+handedTo (ofStep κs a x s contract) = record {
+  setting = record { page = now (a .0); external = now (a .1 .1 .0) };
+  budget = 1;
+  rec = a .1 .1 .1 .0;
+  ram = now (a .1 .0);
 }
 
-abbrev pub asCalls : List CodeCall → List (SeriesCall Setting instructionIn verdictIn)
-asCalls [] = []
-asCalls (o ∷ os) = asCall o ∷ asCalls os
+abbrev pub gaveBy : CodeCall → Result
+gaveBy (ofRun κs a x s contract) = seen x (now (s .1 .0))
+gaveBy (ofStep κs a x s contract) = seen x (now (s .1 .0))
 
--- each is handed what it should be, and meets its contract; the next one is handed what then stands
-abbrev pub CodeSeries : Setting → List CodeCall → Record → List ℕ → Type 0
-CodeSeries s [] r ram = Unit {0}
-CodeSeries s (o ∷ os) r ram =
-    HandedBy Setting instructionIn verdictIn (o .role) s (asCall o) r ram
-    × Gives (o .setting .page) (o .setting .external) (o .total) (o .rec) (o .ram) (o .answer) (o .after)
-    × CodeSeries s os (standingRecord (o .role) r (o .answer .after)) (standingRam (o .role) ram (o .after))
+-- the machine with the code's own calls
+abbrev pub machine : Setting → Machine
+machine = machineOf CodeCall handedTo gaveBy

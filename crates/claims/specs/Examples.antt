@@ -3,10 +3,15 @@ use Prim.Native.Nat.{ℕ}
 use mathlib.Core.Path.{_≡_}
 use mathlib.Core.Bool.{true, false}
 use mathlib.Core.List.{List, [], _∷_}
+use lib.IntN.{pos}
+use Rattle.bits.specs.Integers.{SInt}
+use Rattle.isa.specs.declared.Instruction.the-variants.{B}
+use Rattle.branch.specs.Branches.{targetByte}
 use Rattle.count.specs.Count.{countPage}
 use Rattle.state.specs.Record.{freshRecord, withRegister, withFlags, withPlace}
 use Rattle.state.specs.declared.Record.{Record}
 use Rattle.plain.specs.PlainMachine.{goesOn}
+use Rattle.place.specs.Places.{instructionAt}
 use Rattle.instruction.specs.Instructions.{instructionOf}
 use Rattle.claims.specs.Pages.{pageOf}
 
@@ -33,8 +38,10 @@ pub record Starred : Type 0 where
   pub returns : counts (0x2001 ∷ 0xDF00 ∷ []) ≡ 1
   pub falls-off : counts (0x2001 ∷ 0xBF00 ∷ []) ≡ 0
   pub loops : counts (0xE7FE ∷ 0xBF00 ∷ []) ≡ 1
-  -- its target is 2
+  -- E7FE stands at place 1, a branch by 7FE; its target is byte 2, which is no bundle's first
   pub into-a-bundle : counts (0xBF00 ∷ 0xE7FE ∷ []) ≡ 0
+  pub branches : instructionAt (pageOf (0xBF00 ∷ 0xE7FE ∷ [])) 1 ≡ B 0x7FE
+  pub target-2 : targetByte 1 (SInt 11 0x7FE) ≡ pos 2
   pub back-from-second : counts (0xBF00 ∷ 0xE7FD ∷ []) ≡ 1
   pub before-page : counts (0xE7FC ∷ 0xBF00 ∷ []) ≡ 0
   pub over-a-bad-bundle : counts (0xE000 ∷ 0xBF00 ∷ 0x2001 ∷ 0xBF00 ∷ 0xDE00 ∷ 0xDE00 ∷ []) ≡ 0

@@ -4,7 +4,7 @@ use Prim.Native.Nat.{ℕ, _*_}
 use native.Mathlib.Omega.{arith}
 use mathlib.Core.Bool.{Bool, true, false, not}
 use mathlib.Core.List.{List}
-use mathlib.Core.Path.{_≡_, refl, ap, _∙_}
+use mathlib.Core.Path.{_≡_, refl, ap}
 use lib.Dec.{eqb}
 use lib.IntN.{pos}
 use lib.ListN.{length}
@@ -22,8 +22,6 @@ use Rattle.branch.specs.declared.Target.the-variants as target
 use Rattle.service.specs.Services.{serviceOf, endingOf}
 use Rattle.service.specs.declared.Ending.{Ending}
 use Rattle.service.specs.declared.Ending.the-variants as ending
-use Rattle.service.specs.declared.Service.{Service}
-use Rattle.service.specs.declared.Service.the-variants.{Return, Call, TailCall, Syscall, TailSyscall, LongBranch, Preload, SetBase, StoreAtSp, LoadAtSp, LowerSp, DirectSyscall, Validate, Breakpoint, CallRegister, TailCallRegister, Bad}
 use Rattle.bundle.specs.Flow.{endsFlow, jumpTo, serviceJump, flowBy, flowOf}
 use Rattle.memory.specs.Faults.{faultNumber}
 use Rattle.memory.specs.declared.Fault.{Fault}
@@ -37,9 +35,9 @@ use Rattle.access.specs.LoadsAndStores.{accessed}
 use Rattle.effects.specs.ServiceEffects.{serviceDoes}
 use Rattle.plain.specs.PlainMachine.{Effect, goesOn, exits}
 use Rattle.place.specs.Places.{instructionAt, following, fitPlace}
-use Rattle.series.specs.Keeps.{Keeps}
+use Rattle.series.proofs.Keeps.{Keeps}
 use Rattle.instruction.specs.Instructions.{endAt, branchTo, branchIf, exitOf, servedBy, served, writesOf, effectOf, instructionOf}
-use Rattle.instruction.specs.Fitness.{Fit, Starts, ServiceAt, exitColumn, Known}
+use Rattle.instruction.specs.Fitness.{Fit, Starts, ServiceAt, isExit, Known}
 use Rattle.instruction.proofs.FitPlaces.{LeadsFrom, leads, leads-listed}
 use Rattle.instruction.proofs.FitRecords.{FitWrites, Leaves, accessed-leaves, service-leaves}
 
@@ -50,33 +48,6 @@ known OffExternalPage = omega arith
 known PastStack = omega arith
 known LowStack = omega arith
 known PastPage = omega arith
-
--- ---- the exit column and how a service ends
-
-abbrev isExit : Ending → Bool
-isExit ending.GoesOn = false
-isExit ending.Exit = true
-isExit ending.LastExit = true
-isExit ending.Bad = false
-
-column : (s : Service) → exitColumn s ≡ isExit (endingOf s)
-column Return = refl
-column Call = refl
-column TailCall = refl
-column Syscall = refl
-column TailSyscall = refl
-column LongBranch = refl
-column Preload = refl
-column (SetBase a) = refl
-column (StoreAtSp t a) = refl
-column (LoadAtSp t a) = refl
-column (LowerSp words) = refl
-column (DirectSyscall n) = refl
-column (Validate n) = refl
-column Breakpoint = refl
-column (CallRegister n) = refl
-column (TailCallRegister n) = refl
-column Bad = refl
 
 -- ---- each way to go on or to exit
 
@@ -121,7 +92,7 @@ module _ (page external : List ℕ) (r : Record) (ram : List ℕ) (f : Fit page 
 
   exits-here : (n : ℕ) → instructionAt page (r .place) ≡ instruction.Service n → isExit (endingOf (serviceOf page n)) ≡ true
       → ServiceAt page r (exitOf page n)
-  exits-here n s e = record { low = n; stands = s; reports = refl; column = column (serviceOf page n) ∙ e }
+  exits-here n s e = record { low = n; stands = s; reports = refl; column = e }
 
   service-kept : (n : ℕ) → instructionAt page (r .place) ≡ instruction.Service n
       → (e : Ending) → endingOf (serviceOf page n) ≡ e → LeadsFrom page (r .place) (flowBy (endsFlow e) (serviceJump e))

@@ -3,3 +3,5 @@ pub mod FitRecords
 pub mod Kept
 pub mod ReadsAtPlace
 pub mod Unlisted
+pub mod Words
+pub mod WordsKept

@@ -6,9 +6,9 @@ use mathlib.Core.Path.{_≡_}
 use lib.ListN.{length}
 use Rattle.isa.specs.declared.Instruction.the-variants as instruction
 use Rattle.bundle.specs.Flow.{listed}
-use Rattle.service.specs.Services.{serviceOf}
-use Rattle.service.specs.declared.Service.{Service}
-use Rattle.service.specs.declared.Service.the-variants.{Return, Call, TailCall, Syscall, TailSyscall, LongBranch, Preload, SetBase, StoreAtSp, LoadAtSp, LowerSp, DirectSyscall, Validate, Breakpoint, CallRegister, TailCallRegister, Bad}
+use Rattle.service.specs.Services.{serviceOf, endingOf}
+use Rattle.service.specs.declared.Ending.{Ending}
+use Rattle.service.specs.declared.Ending.the-variants as ending
 use Rattle.state.specs.Record.{fitRecord}
 use Rattle.state.specs.declared.Record.{Record}
 use Rattle.stop.specs.Stops.{Exit}
@@ -26,32 +26,19 @@ pub record Starts (page : List ℕ) (r : Record) : Type 0 where
   pub placeFits : fitPlace page (r .place) ≡ true
   pub isListed : listed (instructionAt page (r .place)) ≡ true
 
--- the build paper's exit column
-abbrev pub exitColumn : Service → Bool
-exitColumn Return = true
-exitColumn Call = true
-exitColumn TailCall = true
-exitColumn Syscall = true
-exitColumn TailSyscall = true
-exitColumn LongBranch = true
-exitColumn Preload = false
-exitColumn (SetBase a) = false
-exitColumn (StoreAtSp t a) = false
-exitColumn (LoadAtSp t a) = false
-exitColumn (LowerSp words) = false
-exitColumn (DirectSyscall n) = true
-exitColumn (Validate n) = false
-exitColumn Breakpoint = true
-exitColumn (CallRegister n) = true
-exitColumn (TailCallRegister n) = true
-exitColumn Bad = false
+-- the build paper's exits, terminators or not
+abbrev pub isExit : Ending → Bool
+isExit ending.GoesOn = false
+isExit ending.Exit = true
+isExit ending.LastExit = true
+isExit ending.Bad = false
 
 -- a service stands at the place that exits so: with its low byte and, for 01-7F, the page's literal
 pub record ServiceAt (page : List ℕ) (r : Record) (exit : Exit) : Type 0 where
   pub low : ℕ
   pub stands : instructionAt page (r .place) ≡ instruction.Service low
   pub reports : exit ≡ exitOf page low
-  pub column : exitColumn (serviceOf page low) ≡ true
+  pub column : isExit (endingOf (serviceOf page low)) ≡ true
 
 -- the six faults
 abbrev pub Known : ℕ → Type 0

@@ -1,171 +1,122 @@
 -- Demand 3, over any machine whose instructions keep what is fit.
-use Prim.Native.Nat.{ℕ, zero, suc, _+_, _-_}
+use Prim.Native.Nat.{ℕ, zero, suc, _-_}
 use native.Mathlib.Omega.{arith}
 use mathlib.Core.Bool.{Bool, true, false, cond}
-use mathlib.Core.List.{List, [], _∷_}
+use mathlib.Core.List.{List, [], _∷_, map}
 use mathlib.Core.Path.{_≡_, refl, sym, ap, subst, _∙_}
-use Rattle.refusal.specs.Refusals.{refusalNumber}
-use Rattle.refusal.specs.declared.Refusal.{Refusal}
-use Rattle.refusal.specs.declared.Verdict.{Verdict}
-use Rattle.refusal.specs.declared.Verdict.the-variants.{Accepted, Refused}
 use Rattle.state.specs.declared.Record.{Record}
-use Rattle.stop.specs.Stops.{Exit, Reason, budget, service, fault, refused}
+use Rattle.stop.specs.Stops.{Reason, budget, service, fault, refused}
 use Rattle.stop.specs.Stops as stops
-use Rattle.plain.specs.PlainMachine.{Effect, goesOn, exits, faults, unlisted, Result, onward, plain}
-use Rattle.series.specs.Traces.{trace, traceOn, Each}
-use Rattle.series.specs.Series.{Role, own, other, standingRecord, standingRam, SeriesCall, contracted, HandedBy, Series, Fed, fedBy, fedTo, plainSeries, Stops, OwnCall, SoundBy, Demand3}
-use Rattle.series.proofs.Runs.{later, run-goes-on, trace-length, entry-runs}
-use Rattle.series.specs.Keeps.{Keeps}
+use Rattle.plain.specs.PlainMachine.{Effect, goesOn, exits, faults, unlisted, Result, plain}
+use Rattle.plain.proofs.Runs.{later, run-goes-on, smaller-budget-spent, run-keeps}
+use Rattle.series.specs.HandedOn.{InSeries, own, other, callIn, HandedIn, leftBy}
+use Rattle.series.specs.Machine.{Handed, Machine, Refuses, refusedBy, called, run}
+use Rattle.series.specs.Series.{State, stateOf, handedState, gaveState, OwnSetting, Series, fed, plainResult, plainAfter, plainResults, plainState}
+use Rattle.series.specs.Demand3.{StopsBy, OwnCall, SoundCall, Demand3}
+use Rattle.series.proofs.Keeps.{Keeps, keeps-leaves, KeepsFit}
 
 -- what stands stays where it isn't handed to a call, or the call gives it back
-stays : {A : Type 0} (handed : Bool) (before gave : A) → (handed ≡ true → gave ≡ before) → cond handed gave before ≡ before
+pub stays : {A : Type 0} (handed : Bool) (before gave : A) → (handed ≡ true → gave ≡ before) → cond handed gave before ≡ before
 stays true before gave e = e refl
 stays false before gave e = refl
 
-module _ (Setting : Type 0) (instruction : Setting → Record → List ℕ → Effect) (verdictOf : Setting → Record → List ℕ → Verdict)
-    (setting : Setting) (Fit : Record → List ℕ → Type 0) (Starts : Record → Type 0)
-    (ServiceAt : Record → Exit → Type 0) (Known : ℕ → Type 0)
-    (keeps : (r : Record) (ram : List ℕ) → Fit r ram → Keeps Fit (ServiceAt r) Known (instruction setting r ram))
-    (starts : (r : Record) (ram : List ℕ) → Fit r ram → Starts r)
-    (accepts : (r : Record) (ram : List ℕ) → Fit r ram → verdictOf setting r ram ≡ Accepted) where
+module _ (m : Machine) (Fit : Record → List ℕ → Type 0) (k : KeepsFit m Fit) where
   -- ---- one run from a fit record and RAM
 
-  abbrev run : ℕ → Record → List ℕ → Result
-  run total r ram = plain (instruction setting) total 0 r ram
+  fit-after : (total : ℕ) (r : Record) (ram : List ℕ) → Fit r ram → Fit (run m total r ram .rec) (run m total r ram .ram)
+  fit-after total r ram f =
+      run-keeps (m .instruction (m .setting)) Fit (λ s after g. keeps-leaves Fit (m .ServiceAt s) (m .Known) (m .instruction (m .setting) s after) (k .keeps s after g))
+      total 0 r ram f
 
-  fit-after : (left steps : ℕ) (r : Record) (ram : List ℕ) → Fit r ram
-      → Fit (plain (instruction setting) left steps r ram .rec) (plain (instruction setting) left steps r ram .ram)
-  unfolding plain
-  fit-after zero steps r ram f = f
-  fit-after (suc left) steps r ram f =
-      go (plain (instruction setting) left (steps + 1)) (fit-after left (steps + 1)) (instruction setting r ram) (keeps r ram f)
-    where
-      go : (next : Record → List ℕ → Result)
-          → ((s : Record) (after : List ℕ) → Fit s after → Fit (next s after .rec) (next s after .ram))
-          → (e : Effect) → Keeps Fit (ServiceAt r) Known e → Fit (onward steps r ram next e .rec) (onward steps r ram next e .ram)
-      go next rest (goesOn s after) k = rest s after k
-      go next rest (exits exit s after) k = k .0
-      go next rest (faults g) k = f
-      go next rest unlisted k = absurd k
+  -- what an own call is handed where these stand
+  abbrev ownHanded : ℕ → Record → List ℕ → Handed (m .Setting)
+  ownHanded total r ram = record { setting = m .setting; budget = total; rec = r; ram = ram }
 
-  all-start : (left : ℕ) (r : Record) (ram : List ℕ) → Fit r ram → Each Starts (trace (instruction setting) left r ram)
-  unfolding trace
-  all-start zero r ram f = (starts r ram f, tt)
-  all-start (suc left) r ram f = (starts r ram f, go (all-start left) (instruction setting r ram) (keeps r ram f))
-    where
-      go : ((s : Record) (after : List ℕ) → Fit s after → Each Starts (trace (instruction setting) left s after))
-          → (e : Effect) → Keeps Fit (ServiceAt r) Known e → Each Starts (traceOn (trace (instruction setting) left) e)
-      go rest (goesOn s after) k = rest s after k
-      go rest (exits exit s after) k = (starts s after (k .0), tt)
-      go rest (faults g) k = tt
-      go rest unlisted k = absurd k
-
-  -- the own call that runs from there
-  abbrev running : ℕ → Record → List ℕ → SeriesCall Setting instruction verdictOf
-  running total r ram = record { role = own; setting = setting; total = total; rec = r; ram = ram; gave = run total r ram }
-
-  abbrev StopsBy : ℕ → Record → List ℕ → Reason → Type 0
-  StopsBy total r ram = Stops Setting instruction verdictOf Starts ServiceAt Known setting (running total r ram)
+  abbrev StopsWell : ℕ → Record → List ℕ → Reason → Type 0
+  StopsWell total r ram = StopsBy m (ownHanded total r ram) (run m total r ram)
 
   -- where the first instruction goes on, a run stops as the rest of it does
-  stops-later : (left : ℕ) (r s : Record) (ram after : List ℕ) → instruction setting r ram ≡ goesOn s after
-      → (why : Reason) → StopsBy left s after why → StopsBy (suc left) r ram why
-  stops-later left r s ram after e = go (λ k. run-goes-on (instruction setting) k r s ram after e)
+  stops-later : (left : ℕ) (r s : Record) (ram after : List ℕ) → m .instruction (m .setting) r ram ≡ goesOn s after
+      → (why : Reason) → StopsWell left s after why → StopsWell (suc left) r ram why
+  stops-later left r s ram after e = go (λ n. run-goes-on (m .instruction (m .setting)) n r s ram after e)
     where
-      go : ((k : ℕ) → run (suc k) r ram ≡ later 1 (run k s after))
-          → (why : Reason) → StopsBy left s after why → StopsBy (suc left) r ram why
+      go : ((n : ℕ) → run m (suc n) r ram ≡ later 1 (run m n s after))
+          → (why : Reason) → StopsWell left s after why → StopsWell (suc left) r ram why
       go on budget h = omega (arith, h, ap (λ (x : Result). x .steps) (on left))
       go on (service exit) h =
           let one = ap (λ (x : Result). x .steps) (on left) in
-          let last : run (suc left) r ram .steps - 1 ≡ suc (run left s after .steps - 1) = omega (arith, one, h .0) in
-          (omega (arith, one), rw (last, on (run left s after .steps - 1)) (h .1))
-      go on (fault n) h = h
+          let last : run m (suc left) r ram .steps - 1 ≡ suc (run m left s after .steps - 1) = omega (arith, one, h .0) in
+          (omega (arith, one), rw (last, on (run m left s after .steps - 1)) (h .1))
+      go on (fault n) h = rw (on left) h
       go on stops.unlisted h = h
-      go on (refused n) h = h
+      go on (refused n values) h = h
 
-  stops-well : (left : ℕ) (r : Record) (ram : List ℕ) → Fit r ram → StopsBy left r ram (run left r ram .stop)
+  stops-well : (left : ℕ) (r : Record) (ram : List ℕ) → Fit r ram → StopsWell left r ram (run m left r ram .stop)
   unfolding plain
   stops-well zero r ram f = refl
-  stops-well (suc left) r ram f = go (stops-well left) (instruction setting r ram) refl (keeps r ram f)
+  stops-well (suc left) r ram f = go (stops-well left) (m .instruction (m .setting) r ram) refl (k .keeps r ram f)
     where
-      go : ((s : Record) (after : List ℕ) → Fit s after → StopsBy left s after (run left s after .stop))
-          → (e : Effect) → instruction setting r ram ≡ e → Keeps Fit (ServiceAt r) Known e
-          → StopsBy (suc left) r ram (run (suc left) r ram .stop)
-      go rest (goesOn s after) e k =
-          let same = ap (λ (x : Result). x .stop) (run-goes-on (instruction setting) left r s ram after e) in
-          subst (StopsBy (suc left) r ram) (sym same) (stops-later left r s ram after e (run left s after .stop) (rest s after k))
-      go rest (exits exit s after) e k = rw e (omega arith, k .1)
-      go rest (faults g) e k = rw e k
-      go rest unlisted e k = absurd k
+      go : ((s : Record) (after : List ℕ) → Fit s after → StopsWell left s after (run m left s after .stop))
+          → (e : Effect) → m .instruction (m .setting) r ram ≡ e → Keeps Fit (m .ServiceAt r) (m .Known) e
+          → StopsWell (suc left) r ram (run m (suc left) r ram .stop)
+      go rest (goesOn s after) e h =
+          let same = ap (λ (x : Result). x .stop) (run-goes-on (m .instruction (m .setting)) left r s ram after e) in
+          subst (StopsWell (suc left) r ram) (sym same)
+          (stops-later left r s ram after e (run m left s after .stop) (rest s after h))
+      go rest (exits exit s after) e h = rw e (omega arith, h .1)
+      go rest (faults g) e h = rw e (record { met = g; meets = e; number = refl; known = h })
+      go rest unlisted e h = absurd h
 
-  own-sound : (total : ℕ) (r : Record) (ram : List ℕ) → Fit r ram
-      → OwnCall Setting instruction verdictOf Starts ServiceAt Known setting (running total r ram)
+  own-sound : (total : ℕ) (r : Record) (ram : List ℕ) → Fit r ram → OwnCall m (ownHanded total r ram) (run m total r ram)
   own-sound total r ram f = record {
-    accepted = accepts r ram f;
+    accepted = k .accepts total r ram f;
     stops = stops-well total r ram f;
-    entries = trace-length (instruction setting) total r ram;
-    starts = all-start total r ram f;
-    runs = λ i l. entry-runs (instruction setting) total i r ram r l;
+    trace = λ i l. (smaller-budget-spent (m .instruction (m .setting)) total i r ram l, k .starts _ _ (fit-after i r ram f));
   }
 
   -- ---- the series
 
-  -- what the contract of a run, and of a step, says of a call
-  abbrev Meets : SeriesCall Setting instruction verdictOf → Type 0
-  Meets c = c .gave ≡ contracted Setting instruction verdictOf (c .setting) (c .total) (c .rec) (c .ram)
+  -- a call is as claimed; a fit state stands after it, which is the plain machine's; and it gave what the plain machine gives
+  record Goes (c : InSeries (m .Call)) (s : State) : Type 0 where
+    sound : SoundCall m c
+    fit : Fit (leftBy (gaveState m) c s .rec) (leftBy (gaveState m) c s .ram)
+    gives : m .gave (callIn c) ≡ plainResult m (fed m c) s
+    leaves : leftBy (gaveState m) c s ≡ plainAfter m (fed m c) s
 
-  -- an own call is a run from the record and RAM that stand
-  own-runs : (c : SeriesCall Setting instruction verdictOf) (r : Record) (ram : List ℕ) → c .role ≡ own → Fit r ram
-      → HandedBy Setting instruction verdictOf own setting c r ram → Meets c → c ≡ running (c .total) r ram
-  own-runs c r ram e f h g =
-      let ran : c .gave ≡ run (c .total) r ram = g ∙ rw (h .0, h .1, h .2, accepts r ram f) in
-      λ i. record { role = e i; setting = h .0 i; total = c .total; rec = h .1 i; ram = h .2 i; gave = ran i }
-
-  -- another call gives back what it was handed
-  gives-back : (c : SeriesCall Setting instruction verdictOf) (why : Refusal) → verdictOf (c .setting) (c .rec) (c .ram) ≡ Refused why
-      → Meets c → c .gave ≡ record { stop = refused (refusalNumber why); steps = 0; rec = c .rec; ram = c .ram }
-  gives-back c why e g = g ∙ rw e
-
-  abbrev plainResults : List (Fed Setting instruction verdictOf) → Record → List ℕ → List Result
-  plainResults = plainSeries Setting instruction verdictOf setting
-
-  -- a call is as claimed, a fit record and RAM stand after it, and it gave what the plain machine gives
-  record Goes (role : Role) (c : SeriesCall Setting instruction verdictOf) (r : Record) (ram : List ℕ) : Type 0 where
-    sound : SoundBy Setting instruction verdictOf Starts ServiceAt Known role setting c
-    fit : Fit (standingRecord role r (c .gave .rec)) (standingRam role ram (c .gave .ram))
-    plainly : (fs : List (Fed Setting instruction verdictOf))
-        → c .gave ∷ plainResults fs (standingRecord role r (c .gave .rec)) (standingRam role ram (c .gave .ram))
-        ≡ plainResults (fedBy Setting instruction verdictOf role c ∷ fs) r ram
-
-  goes : (role : Role) (c : SeriesCall Setting instruction verdictOf) (r : Record) (ram : List ℕ) → c .role ≡ role → Fit r ram
-      → HandedBy Setting instruction verdictOf role setting c r ram → Meets c → Goes role c r ram
-  unfolding plainSeries
-  goes own c r ram e f h g =
-      let same = own-runs c r ram e f h g in
+  goes : (c : InSeries (m .Call)) (s : State) → Fit (s .rec) (s .ram) → HandedIn (gaveState m) (handedState m) (OwnSetting m) (λ c. Refuses m (m .handed c)) c s → Goes c s
+  goes (own c) s f h =
+      let handed : m .handed c ≡ ownHanded (m .handed c .budget) (s .rec) (s .ram) =
+      λ i. record { setting = h .0 i; budget = m .handed c .budget; rec = h .1 i .rec; ram = h .1 i .ram } in
+      let gave : m .gave c ≡ run m (m .handed c .budget) (s .rec) (s .ram) =
+      k .meets c ∙ ap (called m) handed ∙ rw (k .accepts (m .handed c .budget) (s .rec) (s .ram) f) in
       record {
-        sound = rw same (own-sound (c .total) r ram f);
-        fit = rw same (fit-after (c .total) 0 r ram f);
-        plainly = λ fs. rw same;
+        sound = subst (OwnCall m (m .handed c)) (sym gave) (own-there handed);
+        fit = rw gave (fit-after (m .handed c .budget) (s .rec) (s .ram) f);
+        gives = gave;
+        leaves = ap stateOf gave;
       }
-  goes (other itsRecord itsRam) c r ram e f h g =
-      let back = gives-back c (h .0 .0) (h .0 .1) g in
-      let stillRecord = stays itsRecord r (c .gave .rec) (λ t. rw back (h .1 t)) in
-      let stillRam = stays itsRam ram (c .gave .ram) (λ t. rw back (h .2 t)) in
+    where
+      own-there : {h : Handed (m .Setting)} → h ≡ ownHanded (h .budget) (s .rec) (s .ram) → OwnCall m h (run m (h .budget) (s .rec) (s .ram))
+      own-there {h} e = subst (λ (g : Handed (m .Setting)). OwnCall m g (run m (h .budget) (s .rec) (s .ram))) (sym e) (own-sound (h .budget) (s .rec) (s .ram) f)
+  goes (other seriesRecord seriesRam c) s f h =
+      let back : m .gave c ≡ refusedBy m (h .0 .0) (h .0 .1) (m .handed c) = k .meets c ∙ rw (h .0 .2) in
+      let stillRecord = stays seriesRecord (s .rec) (m .gave c .rec) (λ t. rw back (h .1 t)) in
+      let stillRam = stays seriesRam (s .ram) (m .gave c .ram) (λ t. rw back (h .2 t)) in
       record {
-        sound = record { why = h .0 .0; refuses = h .0 .1; gives = back };
+        sound = record { refuses = h .0; gives = back };
         fit = rw (stillRecord, stillRam) f;
-        plainly = λ fs. rw (stillRecord, stillRam, g);
+        gives = k .meets c;
+        leaves = rw (stillRecord, stillRam);
       }
 
-  pub demand3 : (cs : List (SeriesCall Setting instruction verdictOf)) (r : Record) (ram : List ℕ) → Fit r ram
-      → Series Setting instruction verdictOf setting cs r ram
-      → Demand3 Setting instruction verdictOf Starts ServiceAt Known setting cs r ram
-  unfolding plainSeries
-  demand3 [] r ram f h = record { sound = starts r ram f; plainly = refl }
-  demand3 (c ∷ cs) r ram f h =
-      let first = goes (c .role) c r ram refl f (h .0) (h .1) in
-      let rest = demand3 cs _ _ (first .fit) (h .2) in
+  pub demand3 : (cs : List (InSeries (m .Call))) (s : State) → Fit (s .rec) (s .ram) → Series m cs s → Demand3 m cs s
+  unfolding plainResults plainState
+  demand3 [] s f h = record { sound = k .starts (s .rec) (s .ram) f; gives = refl; leaves = refl }
+  demand3 (c ∷ cs) s f h =
+      let first = goes c s f (h .0) in
+      let rest = demand3 cs (leftBy (gaveState m) c s) (first .fit) (h .1) in
       record {
-        sound = (starts r ram f, first .sound, rest .sound);
-        plainly = rw (rest .plainly) (first .plainly (fedTo Setting instruction verdictOf cs));
+        sound = (k .starts (s .rec) (s .ram) f, first .sound, rest .sound);
+        gives = rw (← first .leaves, ← first .gives, rest .gives);
+        leaves = rest .leaves ∙ ap (plainState m (map (fed m) cs)) (first .leaves);
       }

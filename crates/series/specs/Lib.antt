@@ -1,3 +1,4 @@
-pub mod Traces
+pub mod HandedOn
+pub mod Machine
 pub mod Series
-pub mod Keeps
+pub mod Demand3

@@ -1,0 +1,57 @@
+-- The machine that demand 3 speaks of: any instruction, any table of refusals, any calls.
+use Prim.Native.Nat.{ℕ}
+use mathlib.Core.List.{List}
+use mathlib.Core.Path.{_≡_}
+use Rattle.refusal.specs.Refusals.{Decision, accepted, refused}
+use Rattle.state.specs.declared.Record.{Record}
+use Rattle.stop.specs.Stops.{Exit}
+use Rattle.stop.specs.Stops as stops
+use Rattle.plain.specs.PlainMachine.{Effect, Result, plain}
+use Rattle.plain.specs.Calls.{callBy}
+
+-- what a call is handed; `setting` is what it takes beside its budget, the record and RAM. A step is a run with budget 1
+pub record Handed (Setting : Type 0) : Type 0 where
+  pub setting : Setting
+  pub budget : ℕ
+  pub rec : Record
+  pub ram : List ℕ
+
+pub record Machine : Type 1 where
+  pub Setting : Type 0
+  -- what all calls get that aren't refused
+  pub setting : Setting
+  pub instruction : Setting → Record → List ℕ → Effect
+  pub decision : Setting → Record → List ℕ → Decision
+  -- a listed instruction starts at the record's place
+  pub Starts : Record → Type 0
+  -- a service stands there that exits so
+  pub ServiceAt : Record → Exit → Type 0
+  -- the papers have a fault of this number
+  pub Known : ℕ → Type 0
+  -- the calls, what each was handed and what it gave
+  pub Call : Type 0
+  pub handed : Call → Handed Setting
+  pub gave : Call → Result
+
+module _ (m : Machine) where
+  abbrev pub decisionOn : Handed (m .Setting) → Decision
+  decisionOn h = m .decision (h .setting) (h .rec) (h .ram)
+
+  -- the papers refuse a call that is handed this, or they don't
+  abbrev pub Refuses : Handed (m .Setting) → Type 0
+  Refuses h = (n : ℕ) × (values : List ℕ) × (decisionOn h ≡ refused n values)
+
+  abbrev pub Accepts : Handed (m .Setting) → Type 0
+  Accepts h = decisionOn h ≡ accepted
+
+  -- refused, its steps are 0 and its stop is the refusal's number with its values; it gives back what it was handed
+  abbrev pub refusedBy : ℕ → List ℕ → Handed (m .Setting) → Result
+  refusedBy n values h = record { stop = stops.refused n values; steps = 0; rec = h .rec; ram = h .ram }
+
+  -- the plain machine's run, or the refusal
+  abbrev pub called : Handed (m .Setting) → Result
+  called h = callBy (decisionOn h) (m .instruction (h .setting)) (h .budget) (h .rec) (h .ram)
+
+  -- a run that isn't refused
+  abbrev pub run : ℕ → Record → List ℕ → Result
+  run budget r ram = plain (m .instruction (m .setting)) budget 0 r ram
