@@ -2,8 +2,9 @@
  *
  * "01" is the build paper; its words and numbers are used here.
  *
- * What every call answers: 0 (accepted), the number of a refusal, or
- * MB_NO_RECORD. The rest comes back in the numbers and bytes that are lent.
+ * What every call answers: 0 (accepted), the number of a refusal or, for a
+ * step and a run, MB_NO_RECORD. The rest comes back in the numbers and bytes
+ * that are lent. A refused call changes none of the lent bytes.
  *
  * A record is lent as 44 bytes in the layout of 01's stored form (MB_AT_*),
  * but without its range tests: a record that isn't fit can cross, and a step
@@ -60,8 +61,8 @@ enum {
     MB_FORM_LENGTH = 6,
     MB_FORM_RANGE = 7,
     MB_NO_SUCH_BUNDLE = 8,
-    /* The host's own, before all refusals: the bytes hold no record, or the
-     * room lent for a record isn't 44 bytes. Only the lent numbers are written. */
+    /* The host's own, of a step and a run: the bytes hold no record. It stands
+     * after 1, 2 and 3, before 4. Only the lent numbers are written. */
     MB_NO_RECORD = 255
 };
 
@@ -104,14 +105,16 @@ uint32_t mb_read_bundle(const uint8_t *page, size_t page_length, uint32_t k,
 uint32_t mb_validate(uint32_t v, const uint8_t *external, size_t external_length,
                      uint32_t *kind, uint32_t *offset);
 
-/* Writes the fresh record. */
+/* Writes the fresh record. Refused (6): its length isn't 44; nothing is written. */
 uint32_t mb_fresh(uint8_t *record, size_t record_length);
 
-/* Stores a record in the room. Refused (6, 7): the room stays as it was. */
+/* Stores a record in the room. Refused: either length isn't 44 (6); the record is
+ * out of range, or the bytes hold none (7). The room then stays as it was. */
 uint32_t mb_store(const uint8_t *record, size_t record_length,
                   uint8_t *room, size_t room_length);
 
-/* Reads a stored form back. Refused (6, 7): the fresh record is written. */
+/* Reads a stored form back. Refused: either length isn't 44 (6); the stored record
+ * is out of range (7). The record then stays as it was; mb_fresh gives a fresh one. */
 uint32_t mb_load(const uint8_t *stored, size_t stored_length,
                  uint8_t *record, size_t record_length);
 

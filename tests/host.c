@@ -318,9 +318,9 @@ static void fresh(void)
     CHECK(changed(), 0); /* the record by hand, and nothing past it */
     set_register(0, 1);
     keep();
-    CHECK(mb_fresh(lent.record, 0), MB_NO_RECORD);
-    CHECK(mb_fresh(lent.record, 43), MB_NO_RECORD);
-    CHECK(mb_fresh(lent.record, 45), MB_NO_RECORD);
+    CHECK(mb_fresh(lent.record, 0), MB_FORM_LENGTH);
+    CHECK(mb_fresh(lent.record, 43), MB_FORM_LENGTH);
+    CHECK(mb_fresh(lent.record, 45), MB_FORM_LENGTH);
     CHECK(changed(), 0);
 }
 
@@ -374,20 +374,20 @@ static void no_record(int which)
     }
 }
 
-/* Reading back is refused, and only the fresh record is written. */
+/* Reading back is refused, and nothing is written. */
 static void check_load_refused(int line, uint32_t code)
 {
+    set_register(0, 1); /* not the fresh record */
     keep();
     check(line, "load", load(), code);
-    put_fresh(before.record);
-    check(line, "changed by load, beside the record", changed(), 0);
+    check(line, "changed by load", changed(), 0);
 }
 
-/* The lent record isn't stored, by the number given; its bytes in the room aren't read back either. */
-static void check_out_of_range(int line, uint32_t code)
+/* The lent record isn't stored; its bytes in the room aren't read back either. */
+static void check_out_of_range(int line)
 {
     keep();
-    check(line, "store", store(), code);
+    check(line, "store", store(), MB_FORM_RANGE);
     check(line, "changed by store", changed(), 0);
     memcpy(lent.room, lent.record, MB_RECORD_LENGTH);
     check_load_refused(line, MB_FORM_RANGE);
@@ -398,12 +398,12 @@ static void form_range(void)
     for (int which = 0; which <= 5; which++) {
         begin();
         out_of_range(which);
-        check_out_of_range(__LINE__, MB_FORM_RANGE);
+        check_out_of_range(__LINE__);
     }
     for (int which = 0; which <= 3; which++) {
         begin();
         no_record(which);
-        check_out_of_range(__LINE__, MB_NO_RECORD);
+        check_out_of_range(__LINE__);
     }
 }
 
@@ -419,25 +419,26 @@ static void form_length(void)
         set_sp(0x18004); /* 6 before 7 */
         keep();
         CHECK(store(), MB_FORM_LENGTH);
-        no_record(0); /* 255 before both */
+        no_record(0); /* 6 before 7 here too */
         keep();
-        CHECK(store(), MB_NO_RECORD);
+        CHECK(store(), MB_FORM_LENGTH);
         CHECK(changed(), 0);
         check_load_refused(__LINE__, MB_FORM_LENGTH);
     }
 }
 
-static void no_room_for_a_record(void)
+static void record_of_another_length(void)
 {
     begin();
     CHECK(store(), MB_ACCEPTED);
     set_register(0, 1);
     keep();
     for (record_length = 43; record_length <= 45; record_length += 2) {
-        CHECK(store(), MB_NO_RECORD);
-        CHECK(load(), MB_NO_RECORD);
-        room_length = 43; /* 255 before 6 */
-        CHECK(load(), MB_NO_RECORD);
+        CHECK(store(), MB_FORM_LENGTH);
+        CHECK(load(), MB_FORM_LENGTH);
+        room_length = 43; /* both of another length */
+        CHECK(store(), MB_FORM_LENGTH);
+        CHECK(load(), MB_FORM_LENGTH);
         room_length = MB_RECORD_LENGTH;
     }
     CHECK(changed(), 0);
@@ -659,7 +660,7 @@ static void refused_places(void)
     REFUSED(MB_UNFIT_PLACE);
 }
 
-/* Everything wrong at first, and then mended part by part: 255, then 1 to 5. */
+/* Everything wrong at first, and then mended part by part: 1 to 3, 255, 4, 5. */
 static void order(void)
 {
     begin();
@@ -669,14 +670,14 @@ static void order(void)
     set_sp(0);
     set_place(128);
     set_flags(16);
-    REFUSED(MB_NO_RECORD);
-    set_flags(0);
     REFUSED(MB_PAGE_LENGTH);
     page_length = 16;
     REFUSED(MB_RAM_LENGTH);
     ram_length = MB_RAM_BYTES;
     REFUSED(MB_EXTERNAL_LENGTH);
     external_length = 0;
+    REFUSED(MB_NO_RECORD);
+    set_flags(0);
     REFUSED(MB_UNFIT_RECORD);
     set_sp(0x18000);
     REFUSED(MB_UNFIT_PLACE);
@@ -688,7 +689,7 @@ int main(void)
 {
     void (*const tests[])(void) = {
         counts, count_of_a_full_page, count_refused, bundles, bases, base_at_the_end,
-        fresh, stored_and_read_back, form_range, form_length, no_room_for_a_record,
+        fresh, stored_and_read_back, form_range, form_length, record_of_another_length,
         printed_run, budget_zero, slices, other_stops, movw, blt, word_store,
         earlier_stores_stay, base_by_service, external_load, other_faults,
         refused_lengths, refused_records, refused_places, order,

@@ -1,47 +1,24 @@
--- What the host's calls give: numbers by themselves, records as their 44 bytes.
+-- Records as the host's calls take and give them: in room of 44 bytes.
 use Prim.Native.Nat.{ℕ}
-use mathlib.Core.Bool.{cond}
-use mathlib.Core.List.{List}
+use mathlib.Core.Bool.{not}
+use mathlib.Core.List.{List, [], _∷_}
 use lib.Dec.{eqb}
 use lib.ListN.{length}
-use Rattle.refusal.specs.Refusals.{refusalNumber}
-use Rattle.refusal.specs.declared.Verdict.{Verdict}
-use Rattle.refusal.specs.declared.Verdict.the-variants.{Accepted, Refused}
-use Rattle.prefix.specs.declared.LargestSuccessor.{LargestSuccessor}
-use Rattle.prefix.specs.declared.LargestSuccessor.the-variants.{Bad, Nothing, Largest}
-use Rattle.layout.specs.StoredForm.{recordIn, holdsRecord}
-use Rattle.form.specs.Storing.{storeVerdict, roomAfter}
+use Rattle.refusal.specs.Refusals.{Decision, Rule, rule, decision, whenAccepted}
+use Rattle.layout.specs.StoredForm.{storedForm, decode, valuesInRange, recordBytes, recordIn}
 
--- 0 for what is accepted, else the refusal's number
-abbrev pub codeOf : Verdict → ℕ
-codeOf Accepted = 0
-codeOf (Refused r) = refusalNumber r
+-- refusal 6
+abbrev pub roomRule : List ℕ → Rule
+roomRule room = rule (not (eqb (length room) 44)) 6 []
 
--- a number of the host's own, which no refusal has: the bytes hold no record, or the room isn't 44 bytes long. It stands before
--- all refusals, since without a record there is no call
-abbrev pub noRecord : ℕ
-noRecord = 255
+abbrev pub freshDecision : List ℕ → Decision
+freshDecision room = decision (roomRule room ∷ [])
 
--- ---- the reader's answer: 0 bad, 1 no successor, 2 a largest one
+-- storing a record that is given as its bytes, and reading a stored one back: any area that isn't 44 bytes is 6; bytes that are no
+-- record, or one out of range, are 7
+abbrev pub formDecision : List ℕ → List ℕ → Decision
+formDecision bytes room = decision (roomRule room ∷ roomRule bytes ∷ rule (not (valuesInRange (decode storedForm bytes))) 7 [] ∷ [])
 
-abbrev pub largestKind : LargestSuccessor → ℕ
-largestKind Bad = 0
-largestKind Nothing = 1
-largestKind (Largest s) = 2
-
-abbrev pub largestNumber : LargestSuccessor → ℕ
-largestNumber Bad = 0
-largestNumber Nothing = 0
-largestNumber (Largest s) = s
-
--- ---- records
-
--- to room of 44 bytes a record can always go
-abbrev pub roomCode : List ℕ → ℕ → ℕ
-roomCode room code = cond (eqb (length room) 44) code noRecord
-
-abbrev pub storeCode : List ℕ → List ℕ → ℕ
-storeCode bytes room = cond (holdsRecord bytes) (codeOf (storeVerdict (recordIn bytes) room)) noRecord
-
-abbrev pub storedRoom : List ℕ → List ℕ → List ℕ
-storedRoom bytes room = cond (holdsRecord bytes) (roomAfter (recordIn bytes) room) room
+-- refused, the room stays as it was
+abbrev pub formRoom : List ℕ → List ℕ → List ℕ
+formRoom bytes room = whenAccepted (formDecision bytes room) (recordBytes (recordIn bytes)) room

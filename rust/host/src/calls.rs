@@ -1,8 +1,9 @@
 //! The library's calls as they are: over any bytes, answering in numbers.
 //!
-//! A record crosses as 44 bytes. Each call answers 0 (accepted), the number of
-//! a refusal, or 255 where bytes hold no record. This is the one module with
-//! `unsafe`; `tests/header.sh` compares its declarations with the source.
+//! A record crosses as 44 bytes. Each call answers 0 (accepted) or the number of
+//! a refusal; a step and a run also 255, where bytes hold no record. This is the
+//! one module with `unsafe`; `tests/header.sh` compares its declarations with the
+//! source.
 
 extern "C" {
     fn mb_count(page: *const u8, page_length: usize, count: *mut u32) -> u32;

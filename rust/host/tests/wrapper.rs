@@ -273,25 +273,34 @@ fn refusals_in_numbers_and_words() {
     assert_eq!(error.to_string(), "refused 2: RAM length");
 }
 
-/// Bytes that hold no record meet 255 before any refusal, and nothing changes.
+/// Bytes that hold no record meet 255 in a step and a run, after 1, 2 and 3;
+/// stored they are out of range, and nothing changes.
 #[test]
 fn no_record() {
-    let expected = calls::Answer {
-        code: 255,
+    let refused = |code| calls::Answer {
+        code,
         kind: 5,
-        value: 255,
+        value: code,
         literal: 0,
         steps: 0,
     };
     let mut ram = filled_ram();
     let mut bytes = [0xFF; RECORD_LENGTH];
-    assert_eq!(calls::run(&[0], &mut ram, &[], &mut bytes, 9), expected);
-    assert_eq!(calls::step(&[0], &mut ram, &[], &mut bytes), expected);
-    assert_eq!(calls::store(&bytes, &mut ram), 255);
-    assert_eq!(calls::load(&[], &mut bytes[1..]), 255);
-    assert_eq!(calls::fresh(&mut bytes[1..]), 255);
+    for (page, code) in [(&[0][..], 1), (&[], 255)] {
+        let ran = calls::run(page, &mut ram, &[], &mut bytes, 9);
+        assert_eq!(ran, refused(code));
+        let stepped = calls::step(page, &mut ram, &[], &mut bytes);
+        assert_eq!(stepped, refused(code));
+    }
+    assert_eq!(calls::run(&[], &mut ram[1..], &[], &mut bytes, 9), refused(2));
+    assert_eq!(calls::run(&[], &mut ram, &[0], &mut bytes, 9), refused(3));
+    assert_eq!(calls::store(&bytes, &mut ram), 6);
+    assert_eq!(calls::store(&bytes, &mut ram[..RECORD_LENGTH]), 7);
+    assert_eq!(calls::load(&[], &mut bytes[1..]), 6);
+    assert_eq!(calls::load(&[], &mut bytes), 6);
+    assert_eq!(calls::load(&[0xFF; RECORD_LENGTH], &mut bytes[1..]), 6);
+    assert_eq!(calls::load(&[0xFE; RECORD_LENGTH], &mut bytes), 7);
+    assert_eq!(calls::fresh(&mut bytes[1..]), 6);
     assert_eq!(bytes, [0xFF; RECORD_LENGTH]);
     assert!(ram == filled_ram());
-    assert_eq!(calls::load(&[], &mut bytes), 6);
-    assert_eq!(bytes, Record::fresh().to_bytes());
 }

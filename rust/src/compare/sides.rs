@@ -13,6 +13,9 @@ use crate::second::rules::Rules;
 
 /// The host's own number: the bytes hold no record.
 pub const NO_RECORD: u32 = 255;
+/// 01's refusals of storing and reading back.
+const FORM_LENGTH: u32 = 6;
+const FORM_RANGE: u32 = 7;
 
 /// What a step or a run is handed beside RAM. A step has budget 1.
 #[derive(Clone, Copy)]
@@ -93,13 +96,26 @@ fn numbers(answer: &Answer) -> Numbers {
     }
 }
 
+/// What answers a step or a run that is handed no record: 1, 2 or 3 by what is
+/// lent, else 255.
+fn areas_code(handed: &Handed, ram: usize) -> u32 {
+    let (page, external) = (handed.page.len(), handed.external.len());
+    match () {
+        _ if page > 256 || page % 4 != 0 => 1,
+        _ if ram != RAM_SIZE => 2,
+        _ if external > 16_777_216 || external % 256 != 0 => 3,
+        _ => NO_RECORD,
+    }
+}
+
 /// A run of the second program.
 fn second_run(rules: Rules, handed: &Handed, ram: &mut [u8]) -> Given {
     let Some(record) = record_in(handed.record) else {
+        let code = areas_code(handed, ram.len());
         let numbers = Numbers {
-            code: NO_RECORD,
+            code,
             kind: 5,
-            value: NO_RECORD,
+            value: code,
             ..Numbers::default()
         };
         return Given {
@@ -227,7 +243,8 @@ impl Comparison {
         let (mut library, mut second) = (room.to_vec(), room.to_vec());
         let answered = calls::store(record, &mut library);
         let expected = match record_in(record) {
-            None => NO_RECORD,
+            _ if record.len() != STORED || room.len() != STORED => FORM_LENGTH,
+            None => FORM_RANGE,
             Some(record) => code(store(self.rules, &record, &mut second)),
         };
         if (answered, &library) != (expected, &second) {
@@ -244,10 +261,12 @@ impl Comparison {
         let answered = calls::load(stored, &mut library);
         let expected = if room.len() == STORED {
             let (record, refusal) = read_back(self.rules, stored);
-            second = stored_bytes(&record);
+            if refusal.is_none() {
+                second = stored_bytes(&record);
+            }
             code(refusal)
         } else {
-            NO_RECORD
+            FORM_LENGTH
         };
         if (answered, &library) != (expected, &second) {
             let sides = [(answered, &library), (expected, &second)];
@@ -265,7 +284,7 @@ impl Comparison {
             second = stored_bytes(&Record::fresh());
             0
         } else {
-            NO_RECORD
+            FORM_LENGTH
         };
         if (answered, &library) != (expected, &second) {
             let sides = [(answered, &library), (expected, &second)];

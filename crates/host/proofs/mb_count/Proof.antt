@@ -1,9 +1,14 @@
+use mathlib.Core.Path.{ap, _∙_}
 use borrow.Author.Needs.{needs}
+use Rattle.count.specs.Count.{CountAnswer}
+use Rattle.crossing.specs.Numbers.{codeOf}
 use Rattle.host.proofs.mb_count.Statement.{statement}
 use Rattle.host.proofs.mb_count.Tie as tie
 
 returns : tie.Need-returns
-returns c = (rw (c .code-of .ensures, c .before .count .ensures), rw (c .before .count .ensures))
+returns c =
+    let counted = c .before .count .ensures in
+    (c .code-of .ensures ∙ ap (λ (a : CountAnswer). codeOf (a .decision)) counted, ap (λ (a : CountAnswer). a .count) counted)
 
 pub mb-count-spec : {M : Type 1} → statement M
 mb-count-spec = tie.close (tie.spec (λ c κs. tt) (λ c κs. tt) returns)

@@ -1,11 +1,16 @@
+use mathlib.Core.Path.{ap, _∙_}
 use borrow.Author.Needs.{needs}
+use Rattle.bundle.specs.Reader.{ReaderAnswer}
+use Rattle.crossing.specs.Numbers.{codeOf, largestKind, largestNumber}
 use Rattle.host.proofs.mb_read_bundle.Statement.{statement}
 use Rattle.host.proofs.mb_read_bundle.Tie as tie
 
 returns : tie.Need-returns
 returns c =
     let read = c .before .before .before .read-bundle .ensures in
-    (rw (c .code-of .ensures, read), rw (c .before .before .largest-kind .ensures, read), rw (c .before .largest-number .ensures, read))
+    let decided = c .code-of .ensures ∙ ap (λ (a : ReaderAnswer). codeOf (a .decision)) read in
+    let kind = c .before .before .largest-kind .ensures ∙ ap (λ (a : ReaderAnswer). largestKind (a .reading)) read in
+    (decided, kind, c .before .largest-number .ensures ∙ ap (λ (a : ReaderAnswer). largestNumber (a .reading)) read)
 
 pub mb-read-bundle-spec : {M : Type 1} → statement M
 mb-read-bundle-spec = tie.close (tie.spec (λ c κs. tt) (λ c κs. tt) (λ c κs. tt) (λ c κs. tt)

@@ -1,6 +1,6 @@
 use borrow.Author.Needs.{needs}
-use Rattle.host.proofs.numbers_of.Statement.{statement}
-use Rattle.host.proofs.numbers_of.Tie as tie
+use Rattle.crossing.proofs.numbers_of.Statement.{statement}
+use Rattle.crossing.proofs.numbers_of.Tie as tie
 
 returns : tie.Need-returns
 returns c = rw (c .before .enum-told .given .1, c .stop-numbers .ensures)

@@ -1,0 +1,138 @@
+-- What a run leaves of a record that came in bytes always crosses as bytes again: its parts keep to their widths.
+use Prim.Native.Nat.{ℕ, zero, suc, _<_, _/_, _%_, _^_}
+use native.Mathlib.Omega.{arith}
+use mathlib.Core.Bool.{Bool, true, false, not, _&&_, true≢false}
+use mathlib.Core.List.{List, [], _∷_}
+use mathlib.Core.Path.{_≡_, refl}
+use lib.Dec.{eqb, ltb, leb}
+use lib.ListN.{length, getD, take}
+use borrow.Author.Tests.{ltb-true, leb-true, eqb-true}
+use Rattle.laws.proofs.Tests.{both}
+use Rattle.refusal.specs.Refusals.{Decision, accepted, refused, rule, decision}
+use Rattle.page.specs.Page.{pageFits, bundlesIn}
+use Rattle.page.proofs.Theorems.{fitting}
+use Rattle.prefix.proofs.Theorems.{definition}
+use Rattle.bundle.specs.Successors.{successorsOf}
+use Rattle.count.specs.Count.{countOf, countPage}
+use Rattle.state.specs.Record.{offsetOf, spFits, baseFits, fitRecord}
+use Rattle.state.specs.Validation.{externalFits}
+use Rattle.state.specs.declared.Base.{Base}
+use Rattle.state.specs.declared.Base.the-variants.{Nothing, Ram, External}
+use Rattle.state.specs.declared.Record.{Record}
+use Rattle.place.specs.Places.{fitPlace}
+use Rattle.plain.specs.Calls.{callBy}
+use Rattle.plain.proofs.Runs.{run-keeps}
+use Rattle.series.proofs.Keeps.{keeps-leaves}
+use Rattle.admission.specs.RunRefusals.{runDecision}
+use Rattle.instruction.specs.Fitness.{Fit, ServiceAt, Known}
+use Rattle.instruction.specs.Instructions.{instructionOf}
+use Rattle.instruction.proofs.Kept.{keeps}
+use Rattle.instruction.proofs.WordsKept.{Words, words-kept}
+use Rattle.machine.specs.Runs.{runOf}
+use Rattle.layout.specs.StoredForm.{storedForm, decode, baseOf, recordIn, Held}
+use Rattle.layout.proofs.Fields.{decode-below}
+use Rattle.host_claims.specs.HostCalls.{Bytes}
+
+-- ---- a record in bytes
+
+offset-below : (kind offset : ℕ) → offset < 2 ^ 32 → offsetOf (baseOf kind offset) < 2 ^ 32
+offset-below zero offset l = omega arith
+offset-below (suc zero) offset l = l
+offset-below (suc (suc kind)) offset l = l
+
+module _ (bytes : List ℕ) (h : Bytes bytes) where
+  register-below : (k : ℕ) → getD (take 8 (decode storedForm bytes)) k 0 < 2 ^ 32
+  register-below zero = decode-below storedForm 0 bytes (omega arith) h
+  register-below (suc zero) = decode-below storedForm 1 bytes (omega arith) h
+  register-below (suc (suc zero)) = decode-below storedForm 2 bytes (omega arith) h
+  register-below (suc (suc (suc zero))) = decode-below storedForm 3 bytes (omega arith) h
+  register-below (suc (suc (suc (suc zero)))) = decode-below storedForm 4 bytes (omega arith) h
+  register-below (suc (suc (suc (suc (suc zero))))) = decode-below storedForm 5 bytes (omega arith) h
+  register-below (suc (suc (suc (suc (suc (suc zero)))))) = decode-below storedForm 6 bytes (omega arith) h
+  register-below (suc (suc (suc (suc (suc (suc (suc zero))))))) = decode-below storedForm 7 bytes (omega arith) h
+  register-below (suc (suc (suc (suc (suc (suc (suc (suc k)))))))) = omega arith
+
+  pub record-held : Held (recordIn bytes)
+  record-held = record {
+    eight = refl;
+    words = register-below;
+    sp = decode-below storedForm 8 bytes (omega arith) h;
+    offset = offset-below (getD (decode storedForm bytes) 9 0) _ (decode-below storedForm 10 bytes (omega arith) h);
+    place = decode-below storedForm 11 bytes (omega arith) h;
+  }
+
+-- ---- a fit record
+
+sp-below : (sp : ℕ) → spFits sp ≡ true → sp < 2 ^ 32
+sp-below sp h =
+    let parts = both (leb 0x10000 sp && leb sp 0x18000) (eqb (sp % 4) 0) h in
+    omega (arith, leb-true sp 0x18000 (both (leb 0x10000 sp) (leb sp 0x18000) (parts .0) .1))
+
+base-below : (b : Base) (external : ℕ) → external < 2 ^ 32 → baseFits b external ≡ true → offsetOf b < 2 ^ 32
+base-below Nothing external l h = omega arith
+base-below (Ram o) external l h = omega (arith, ltb-true o (2 ^ 20) h)
+base-below (External o) external l h = omega (arith, ltb-true o external h)
+
+external-below : (external : ℕ) → externalFits external ≡ true → external < 2 ^ 32
+unfolding externalFits
+external-below external h = omega (arith, leb-true external 16777216 (both (leb external 16777216) (eqb (external % 256) 0) h .0))
+
+place-below : (page : List ℕ) (place : ℕ) → pageFits page ≡ true → fitPlace page place ≡ true → place < 2 ^ 16
+unfolding fitPlace
+place-below page place p h =
+    let counted : countPage page .count ≡ countOf page = rw p in
+    let bundles = fitting page p in
+    let below = ltb-true (place / 2) (countPage page .count) (both (ltb (place / 2) (countPage page .count)) _ h .0) in
+    omega (arith, below, counted, definition (successorsOf page) (bundlesIn page) .inside, bundles)
+
+fit-held : (page external : List ℕ) (r : Record) (ram : List ℕ) → pageFits page ≡ true → externalFits (length external) ≡ true
+    → Fit page external r ram → Words r ram → Held r
+unfolding fitRecord
+fit-held page external r ram p e f w =
+    let parts = both (spFits (r .sp)) (baseFits (r .base) (length external)) (f .recordFits) in
+    record {
+      eight = w .eight;
+      words = w .words;
+      sp = sp-below (r .sp) (parts .0);
+      offset = base-below (r .base) (length external) (external-below (length external) e) (parts .1);
+      place = place-below page (r .place) p (f .placeFits);
+    }
+
+-- ---- a run
+
+-- what is not refused is allowed and fit
+record Accepts (page external : List ℕ) (r : Record) (ram : List ℕ) : Type 0 where
+  allowedPage : pageFits page ≡ true
+  allowedData : externalFits (length external) ≡ true
+  fits : Fit page external r ram
+
+accepted-fits : (page external : List ℕ) (r : Record) (ram : List ℕ) → runDecision page external r ram ≡ accepted → Accepts page external r ram
+unfolding runDecision
+accepted-fits page external r ram e =
+    let h = by (pageFits page) (eqb (length ram) 32768) (externalFits (length external)) (fitRecord r (length external)) (fitPlace page (r .place)) e in
+    record { allowedPage = h .0; allowedData = h .2; fits = record { recordFits = h .3; placeFits = h .4; ramFits = eqb-true (length ram) 32768 (h .1) } }
+  where
+    by : (p n x f g : Bool)
+        → decision (rule (not p) 1 [] ∷ rule (not n) 2 [] ∷ rule (not x) 3 [] ∷ rule (not f) 4 [] ∷ rule (not g) 5 [] ∷ []) ≡ accepted
+        → (p ≡ true) × (n ≡ true) × (x ≡ true) × (f ≡ true) × (g ≡ true)
+    by true true true true true h = (refl, refl, refl, refl, refl)
+    by true true true true false h = absurd (true≢false cc)
+    by true true true false g h = absurd (true≢false cc)
+    by true true false f g h = absurd (true≢false cc)
+    by true false x f g h = absurd (true≢false cc)
+    by false n x f g h = absurd (true≢false cc)
+
+module _ (page external : List ℕ) (p : Bytes page) (e : Bytes external) (total : ℕ) (r : Record) (ram : List ℕ) (h : Held r) (m : Bytes ram) where
+  pub held-after : Held (runOf page external total r ram .rec)
+  held-after = go (runDecision page external r ram) refl
+    where
+      go : (v : Decision) → runDecision page external r ram ≡ v → Held (callBy v (instructionOf page external) total r ram .rec)
+      go accepted q =
+          let a = accepted-fits page external r ram q in
+          fit-held page external _ _ (a .allowedPage) (a .allowedData)
+          (run-keeps (instructionOf page external) (Fit page external)
+          (λ s after f. keeps-leaves (Fit page external) (ServiceAt page s) Known (instructionOf page external s after) (keeps page external (a .allowedPage) s after f))
+          total 0 r ram (a .fits))
+          (run-keeps (instructionOf page external) Words (λ s after w. words-kept page external p e s after w)
+          total 0 r ram (record { eight = h .eight; words = h .words; bytes = m }))
+      go (refused n values) q = h

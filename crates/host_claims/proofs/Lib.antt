@@ -1,0 +1,3 @@
+pub mod HeldAfter
+pub mod Refused
+pub mod HostDemand3
