@@ -62,7 +62,8 @@ module _ (bytes room : List ℕ) where
           let loaded : a .loaded ≡ recordIn bytes =
           ap (λ (x : LoadAnswer). x .loaded) e ∙ ap (λ (d : Decision). whenAccepted d (recordIn bytes) freshRecord) (read-decision ∙ t) in
           let written : roomWith (a .loaded) room ≡ recordBytes (a .loaded) = rw (eq-eqb (length room) 44 m) in
-          (t, written ∙ ap recordBytes loaded ∙ sym (ap (λ (d : Decision). whenAccepted d (recordBytes (recordIn bytes)) room) t))
+          let stands : formRoom bytes room ≡ recordBytes (recordIn bytes) = rw t in
+          (t, written ∙ ap recordBytes loaded ∙ sym stands)
 
   -- the record that the bytes hold is stored as 01's call stores it
   pub stored-decision : holdsRecord bytes ≡ true → storeDecision (recordIn bytes) room ≡ formDecision bytes room
