@@ -1,14 +1,14 @@
 -- What a run leaves of a record that came in bytes always crosses as bytes again: its parts keep to their widths.
 use Prim.Native.Nat.{ℕ, zero, suc, _<_, _/_, _%_, _^_}
 use native.Mathlib.Omega.{arith}
-use mathlib.Core.Bool.{Bool, true, false, not, _&&_, true≢false}
-use mathlib.Core.List.{List, [], _∷_}
+use mathlib.Core.Bool.{true, _&&_}
+use mathlib.Core.List.{List}
 use mathlib.Core.Path.{_≡_, refl}
 use lib.Dec.{eqb, ltb, leb}
 use lib.ListN.{length, getD, take}
-use borrow.Author.Tests.{ltb-true, leb-true, eqb-true}
+use borrow.Author.Tests.{ltb-true, leb-true}
 use Rattle.laws.proofs.Tests.{both}
-use Rattle.refusal.specs.Refusals.{Decision, accepted, refused, rule, decision}
+use Rattle.refusal.specs.Refusals.{Decision, accepted, refused}
 use Rattle.page.specs.Page.{pageFits, bundlesIn}
 use Rattle.page.proofs.Theorems.{fitting}
 use Rattle.prefix.proofs.Theorems.{definition}
@@ -24,6 +24,7 @@ use Rattle.plain.specs.Calls.{callBy}
 use Rattle.plain.proofs.Runs.{run-keeps}
 use Rattle.series.proofs.Keeps.{keeps-leaves}
 use Rattle.admission.specs.RunRefusals.{runDecision}
+use Rattle.admission.proofs.Theorems.{accepted-all}
 use Rattle.instruction.specs.Fitness.{Fit, ServiceAt, Known}
 use Rattle.instruction.specs.Instructions.{instructionOf}
 use Rattle.instruction.proofs.Kept.{keeps}
@@ -107,20 +108,9 @@ record Accepts (page external : List ℕ) (r : Record) (ram : List ℕ) : Type 0
   fits : Fit page external r ram
 
 accepted-fits : (page external : List ℕ) (r : Record) (ram : List ℕ) → runDecision page external r ram ≡ accepted → Accepts page external r ram
-unfolding runDecision
 accepted-fits page external r ram e =
-    let h = by (pageFits page) (eqb (length ram) 32768) (externalFits (length external)) (fitRecord r (length external)) (fitPlace page (r .place)) e in
-    record { allowedPage = h .0; allowedData = h .2; fits = record { recordFits = h .3; placeFits = h .4; ramFits = eqb-true (length ram) 32768 (h .1) } }
-  where
-    by : (p n x f g : Bool)
-        → decision (rule (not p) 1 [] ∷ rule (not n) 2 [] ∷ rule (not x) 3 [] ∷ rule (not f) 4 [] ∷ rule (not g) 5 [] ∷ []) ≡ accepted
-        → (p ≡ true) × (n ≡ true) × (x ≡ true) × (f ≡ true) × (g ≡ true)
-    by true true true true true h = (refl, refl, refl, refl, refl)
-    by true true true true false h = absurd (true≢false cc)
-    by true true true false g h = absurd (true≢false cc)
-    by true true false f g h = absurd (true≢false cc)
-    by true false x f g h = absurd (true≢false cc)
-    by false n x f g h = absurd (true≢false cc)
+    let h = accepted-all page external r ram e in
+    record { allowedPage = h .0; allowedData = h .2; fits = record { recordFits = h .3; placeFits = h .4; ramFits = h .1 } }
 
 module _ (page external : List ℕ) (p : Bytes page) (e : Bytes external) (total : ℕ) (r : Record) (ram : List ℕ) (h : Held r) (m : Bytes ram) where
   pub held-after : Held (runOf page external total r ram .rec)

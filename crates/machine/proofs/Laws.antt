@@ -15,7 +15,7 @@ use Rattle.refusal.specs.declared.Verdict.the-variants.{Accepted, Refused}
 use Rattle.page.specs.Page.{firstOf, secondOf}
 use Rattle.page.proofs.Theorems.{fitting}
 use Rattle.admission.specs.RunRefusals.{runDecision}
-use Rattle.admission.proofs.Theorems.{accepted-page}
+use Rattle.admission.proofs.Theorems.{accepted-all}
 use Rattle.plain.specs.Calls.{callBy}
 use Rattle.machine.specs.Runs.{runOf}
 use Rattle.isa.specs.ListedEncodings.{opens32}
@@ -195,4 +195,4 @@ module _ (page external : List ℕ) (total : ℕ) (r : Record) (ram : List ℕ) 
   accepted-run x h ran = ran ∙ decided accepted (ap decisionOf h)
 
   pub accepted-short : v ≡ Accepted → length page ≤ 256
-  accepted-short h = fitting page (accepted-page page external r ram (sym e ∙ ap decisionOf h)) .0
+  accepted-short h = fitting page (accepted-all page external r ram (sym e ∙ ap decisionOf h) .0) .0
