@@ -4,7 +4,7 @@ use Rattle.prefix.specs.Prefix.{allWithin, greatestClosed}
 use Rattle.isa.specs.Patterns.{matches}
 use Rattle.isa.specs.ListedEncodings.{opens32, decodeBy}
 use Rattle.page.specs.Page.{halfwordAt, wordAt, pageFits}
-use Rattle.service.specs.Services.{serviceOf, literalService, literalOf, callOf, syscallOf, addressOperationOf}
+use Rattle.service.specs.Services.{serviceOf, byLowByte, literalService, literalOf, callOf, syscallOf, addressOperationOf}
 use Rattle.branch.specs.Branches.{bundleAt}
 use Rattle.bundle.specs.Flow.{flowOf}
 use Rattle.bundle.specs.Successors.{successorsOf}
@@ -15,7 +15,7 @@ use Rattle.instruction.specs.Instructions.{endAt, branchTo, branchIf, effectOf,
 use Rattle.claims.specs.Examples.{Starred}
 
 pub starred : Starred
-unfolding greatestClosed allWithin successorsOf flowOf bundleAt serviceOf literalService literalOf callOf syscallOf addressOperationOf halfwordAt wordAt pageFits opens32 decodeBy matches instructionOf instructionAt standsIn following effectOf endAt branchIf branchTo applied withRegister withFlags withPlace
+unfolding greatestClosed allWithin successorsOf flowOf bundleAt serviceOf byLowByte literalService literalOf callOf syscallOf addressOperationOf halfwordAt wordAt pageFits opens32 decodeBy matches instructionOf instructionAt standsIn following effectOf endAt branchIf branchTo applied withRegister withFlags withPlace
 starred = record {
   empty = refl;
   returns = refl;

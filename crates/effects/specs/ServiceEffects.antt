@@ -32,11 +32,11 @@ setBase r ram v external = does (writingBase (writesNothing r) (validated v exte
 -- every service except setting the base leaves the base none; an exit does nothing else here
 unfoldable pub serviceDoes : ℕ → Service → Record → List ℕ → Outcome
 serviceDoes external Return r ram = leavesNone (does (writesNothing r) ram)
-serviceDoes external Call r ram = leavesNone (does (writesNothing r) ram)
-serviceDoes external TailCall r ram = leavesNone (does (writesNothing r) ram)
-serviceDoes external Syscall r ram = leavesNone (does (writesNothing r) ram)
-serviceDoes external TailSyscall r ram = leavesNone (does (writesNothing r) ram)
-serviceDoes external LongBranch r ram = leavesNone (does (writesNothing r) ram)
+serviceDoes external (Call a n) r ram = leavesNone (does (writesNothing r) ram)
+serviceDoes external (TailCall a n) r ram = leavesNone (does (writesNothing r) ram)
+serviceDoes external (Syscall n i) r ram = leavesNone (does (writesNothing r) ram)
+serviceDoes external (TailSyscall n i) r ram = leavesNone (does (writesNothing r) ram)
+serviceDoes external (LongBranch a) r ram = leavesNone (does (writesNothing r) ram)
 serviceDoes external Preload r ram = leavesNone (does (writesNothing r) ram)
 serviceDoes external (SetBase a) r ram = setBase r ram a external
 serviceDoes external (StoreAtSp t a) r ram = leavesNone (storeAt r ram t (r .sp + a))

@@ -54,11 +54,11 @@ pub fn serve(external: &[u8], s: Service, r: Record, ram: &mut [u8]) -> Did
     let sp = r.sp as usize;
     match s {
         Service::Return => base_rule(r),
-        Service::Call => base_rule(r),
-        Service::TailCall => base_rule(r),
-        Service::Syscall => base_rule(r),
-        Service::TailSyscall => base_rule(r),
-        Service::LongBranch => base_rule(r),
+        Service::Call(_, _) => base_rule(r),
+        Service::TailCall(_, _) => base_rule(r),
+        Service::Syscall(_, _) => base_rule(r),
+        Service::TailSyscall(_, _) => base_rule(r),
+        Service::LongBranch(_) => base_rule(r),
         Service::Preload => base_rule(r),
         Service::SetBase(a) => set_base_to(r, a, external),
         Service::StoreAtSp(t, a) => leave_none(access::store_at(r, ram, t, sp + a as usize)),

@@ -14,7 +14,7 @@ use Rattle.machine.specs.Runs.{runOf}
 use Rattle.claims.specs.Demand3.{Setting, Allowed, FitStart}
 use Rattle.claims.proofs.Demand3.{demand3-of}
 use Rattle.crossing.specs.Numbers.{codeOf, stopNumbers}
-use Rattle.host.specs.HostRuns.{noRecordRules, crossing, hostRun}
+use Rattle.marshbodkin.specs.HostRuns.{noRecordRules, crossing, hostRun}
 use Rattle.host_claims.specs.HostCalls.{LentBytes, HostCall, ofRun, ofStep, lentTo, crossedBy, stopIn}
 use Rattle.host_claims.specs.HostSeries.{RecordCall, handedRecord, gaveRecord, hostMachine, ByteState, crossedState, HostSeries, ifHeld, recordCalls, stateIn, KeepsBytes, Crosses, HostDemand3}
 use Rattle.host_claims.proofs.HeldAfter.{record-held, held-after}

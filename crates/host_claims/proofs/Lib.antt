@@ -1,3 +1,4 @@
 pub mod HeldAfter
 pub mod Refused
 pub mod HostDemand3
+pub mod HostExits

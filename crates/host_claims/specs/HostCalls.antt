@@ -1,4 +1,4 @@
--- The host's calls of `mb_run` and `mb_step`: what each was lent, and what came back.
+-- The host's calls of `mb_raw_run` and `mb_raw_step`: what each was lent, and what came back.
 use Prim.Native.Nat.{ℕ, _<_}
 use contract.Lifetimes.{Lfts}
 use borrow.Fn.World.{ArgsD, ResD}
@@ -11,13 +11,13 @@ use Rattle.stop.specs.Stops.{direct, byLiteral, Reason, budget, service, fault,
 use Rattle.plain.specs.PlainMachine.{Result}
 use Rattle.layout.specs.StoredForm.{recordIn}
 use Rattle.claims.specs.Demand3.{Setting}
-use Rattle.host.specs.HostRuns.{Crossed, answered}
-use Rattle.host.proofs.mb_run as mb_run
-use Rattle.host.proofs.mb_run.Kinds as run-kinds
-use Rattle.host.proofs.mb_run.Reads as run-reads
-use Rattle.host.proofs.mb_step as mb_step
-use Rattle.host.proofs.mb_step.Kinds as step-kinds
-use Rattle.host.proofs.mb_step.Reads as step-reads
+use Rattle.marshbodkin.specs.HostRuns.{Crossed, answered}
+use Rattle.marshbodkin.proofs.mb_raw_run as mb_raw_run
+use Rattle.marshbodkin.proofs.mb_raw_run.Kinds as run-kinds
+use Rattle.marshbodkin.proofs.mb_raw_run.Reads as run-reads
+use Rattle.marshbodkin.proofs.mb_raw_step as mb_raw_step
+use Rattle.marshbodkin.proofs.mb_raw_step.Kinds as step-kinds
+use Rattle.marshbodkin.proofs.mb_raw_step.Reads as step-reads
 
 -- what a call is lent, and its budget; a record crosses as its bytes
 pub record Lent : Type 0 where
@@ -36,8 +36,8 @@ pub record LentBytes (l : Lent) : Type 0 where
   pub bytes : Bytes (l .bytes)
   pub ram : Bytes (l .ram)
 
--- page, RAM, external data, the record's bytes and, for `mb_run`, the budget
-abbrev pub lentRun : (κs : Lfts 8) → ArgsD mb_run.signature κs → Lent
+-- page, RAM, external data, the record's bytes and, for `mb_raw_run`, the budget
+abbrev pub lentRun : (κs : Lfts 8) → ArgsD mb_raw_run.signature κs → Lent
 lentRun κs a = record {
   setting = record { page = now (a .0); external = now (a .1 .1 .0) };
   budget = a .1 .1 .1 .1 .0;
@@ -45,7 +45,7 @@ lentRun κs a = record {
   ram = now (a .1 .0);
 }
 
-abbrev pub lentStep : (κs : Lfts 8) → ArgsD mb_step.signature κs → Lent
+abbrev pub lentStep : (κs : Lfts 8) → ArgsD mb_raw_step.signature κs → Lent
 lentStep κs a = record {
   setting = record { page = now (a .0); external = now (a .1 .1 .0) };
   budget = 1;
@@ -56,9 +56,9 @@ lentStep κs a = record {
 -- a call as the checker reads it: its arguments, its code, what is lent at exit, and all that is known of them: that bytes are
 -- bytes, and the contract
 pub data HostCall : Type 0 where
-  ofRun : (κs : Lfts 8) (a : ArgsD mb_run.signature κs) (x : ResD mb_run.signature κs) (s : AtExit (endedOf 8 run-kinds.ps run-kinds.r) κs)
+  ofRun : (κs : Lfts 8) (a : ArgsD mb_raw_run.signature κs) (x : ResD mb_raw_run.signature κs) (s : AtExit (endedOf 8 run-kinds.ps run-kinds.r) κs)
       → LentBytes (lentRun κs a) → run-reads.Post κs a x s → HostCall
-  ofStep : (κs : Lfts 8) (a : ArgsD mb_step.signature κs) (x : ResD mb_step.signature κs) (s : AtExit (endedOf 8 step-kinds.ps step-kinds.r) κs)
+  ofStep : (κs : Lfts 8) (a : ArgsD mb_raw_step.signature κs) (x : ResD mb_raw_step.signature κs) (s : AtExit (endedOf 8 step-kinds.ps step-kinds.r) κs)
       → LentBytes (lentStep κs a) → step-reads.Post κs a x s → HostCall
 
 abbrev pub lentTo : HostCall → Lent

@@ -160,11 +160,11 @@ module _ (external : ℕ) (r : Record) (ram : List ℕ) (f : FitWrites external 
   pub service-leaves : (s : Service) → Leaves external (serviceDoes external s r ram)
   unfolding serviceDoes
   service-leaves Return = none-leaves
-  service-leaves Call = none-leaves
-  service-leaves TailCall = none-leaves
-  service-leaves Syscall = none-leaves
-  service-leaves TailSyscall = none-leaves
-  service-leaves LongBranch = none-leaves
+  service-leaves (Call a n) = none-leaves
+  service-leaves (TailCall a n) = none-leaves
+  service-leaves (Syscall n i) = none-leaves
+  service-leaves (TailSyscall n i) = none-leaves
+  service-leaves (LongBranch a) = none-leaves
   service-leaves Preload = none-leaves
   service-leaves (SetBase a) = base-leaves a
   service-leaves (StoreAtSp t a) = none-after external _ (stack-store t (r .sp + a))

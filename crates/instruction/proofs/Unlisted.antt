@@ -65,11 +65,11 @@ bad-served ending.Bad exit r next o = (λ e. refl, λ e. refl)
 
 bad-ending : (s : AnyService) → endingOf s ≡ ending.Bad → s ≡ service.Bad
 bad-ending service.Return e = cc
-bad-ending service.Call e = cc
-bad-ending service.TailCall e = cc
-bad-ending service.Syscall e = cc
-bad-ending service.TailSyscall e = cc
-bad-ending service.LongBranch e = cc
+bad-ending (service.Call a n) e = cc
+bad-ending (service.TailCall a n) e = cc
+bad-ending (service.Syscall n i) e = cc
+bad-ending (service.TailSyscall n i) e = cc
+bad-ending (service.LongBranch a) e = cc
 bad-ending service.Preload e = cc
 bad-ending (service.SetBase a) e = cc
 bad-ending (service.StoreAtSp t a) e = cc

@@ -117,28 +117,28 @@ abbrev pub WordWritten : Write → Type 0
 WordWritten NoRegister = Unit {0}
 WordWritten (Register d x) = x < 2 ^ 32
 
--- whatever the registers are
-abbrev pub WritesWord : Instruction → Type 0
-WritesWord (Data operation) =
+-- what is written is a word, whatever the registers are; a service's low byte is a byte
+abbrev pub InWidth : Instruction → Type 0
+InWidth (Data operation) =
     (regs : List ℕ) (sp : ℕ) (f : Flags) → Below (2 ^ 32) regs → WordWritten (computed operation regs sp f .register)
-WritesWord (Memory access) = Unit {0}
-WritesWord (Cbz imm6 n) = Unit {0}
-WritesWord (Cbnz imm6 n) = Unit {0}
-WritesWord (Bcc condition imm8) = Unit {0}
-WritesWord (B imm11) = Unit {0}
-WritesWord (instruction.Service n) = Unit {0}
-WritesWord Unlisted = Unit {0}
+InWidth (Memory access) = Unit {0}
+InWidth (Cbz imm6 n) = Unit {0}
+InWidth (Cbnz imm6 n) = Unit {0}
+InWidth (Bcc condition imm8) = Unit {0}
+InWidth (B imm11) = Unit {0}
+InWidth (instruction.Service n) = n < 256
+InWidth Unlisted = Unit {0}
 
-abbrev RowsWriteWords : List Row → Type 0
-RowsWriteWords [] = Unit {0}
-RowsWriteWords (row p m ∷ rows) = ((w : ℕ) → WritesWord (m w)) × RowsWriteWords rows
+abbrev RowsInWidth : List Row → Type 0
+RowsInWidth [] = Unit {0}
+RowsInWidth (row p m ∷ rows) = ((w : ℕ) → InWidth (m w)) × RowsInWidth rows
 
 -- each row, in the order of the listed encodings
 infixr 5 _&_
 _&_ : {A B : Type 0} → A → B → A × B
 a & b = (a, b)
 
-rows16 : RowsWriteWords listed16
+rows16 : RowsInWidth listed16
 rows16 =
     (λ w regs sp f h. lsl-word (registerIn regs (bits w 5 3)) (bits w 10 6) f (h _))
     & (λ w regs sp f h. lsr-word (registerIn regs (bits w 5 3)) (immediateAmount (bits w 10 6)) f (h _))
@@ -183,16 +183,16 @@ rows16 =
     & (λ w. tt)
     & (λ w. tt)
     & (λ w. tt)
-    & (λ w. tt)
-    & (λ w. tt)
-    & (λ w. tt)
-    & (λ w. tt)
-    & (λ w. tt)
-    & (λ w. tt)
-    & (λ w. tt)
+    & (λ w. omega arith)
+    & (λ w. omega arith)
+    & (λ w. omega arith)
+    & (λ w. omega arith)
+    & (λ w. omega arith)
+    & (λ w. omega arith)
+    & (λ w. omega arith)
     & tt
 
-rows32 : RowsWriteWords listed32
+rows32 : RowsInWidth listed32
 rows32 =
     (λ w. tt)
     & (λ w. tt)
@@ -208,23 +208,23 @@ rows32 =
     & (λ w regs sp f h. udiv-word (registerIn regs (bits w 18 16)) (registerIn regs (bits w 2 0)) (h _))
     & tt
 
-decoded-writes : (rows : List Row) → RowsWriteWords rows → (w : ℕ) → WritesWord (decodeBy rows w)
+decoded-in-width : (rows : List Row) → RowsInWidth rows → (w : ℕ) → InWidth (decodeBy rows w)
 unfolding decodeBy
-decoded-writes [] h w = tt
-decoded-writes (row p m ∷ rows) h w = go (matches p w) (decoded-writes rows (h .1) w)
+decoded-in-width [] h w = tt
+decoded-in-width (row p m ∷ rows) h w = go (matches p w) (decoded-in-width rows (h .1) w)
   where
-    go : (t : Bool) → WritesWord (decodeBy rows w) → WritesWord (cond t (m w) (decodeBy rows w))
+    go : (t : Bool) → InWidth (decodeBy rows w) → InWidth (cond t (m w) (decodeBy rows w))
     go true rest = h .0 w
     go false rest = rest
 
-pub listed-writes : (page : List ℕ) (place : ℕ) → WritesWord (instructionAt page place)
+pub in-width : (page : List ℕ) (place : ℕ) → InWidth (instructionAt page place)
 unfolding instructionAt standsIn
-listed-writes page place =
+in-width page place =
     go (ltb (place / 2) (bundlesIn page)) (opens32 (firstOf page (place / 2))) (isEven place) (firstOf page (place / 2)) (secondOf page (place / 2))
   where
     go : (inside wide even : Bool) (first second : ℕ)
-        → WritesWord (cond inside (cond wide (cond even (decode32Of first second) Unlisted) (decode16Of (cond even first second))) Unlisted)
-    go true true true first second = decoded-writes listed32 rows32 (wordOf first second)
+        → InWidth (cond inside (cond wide (cond even (decode32Of first second) Unlisted) (decode16Of (cond even first second))) Unlisted)
+    go true true true first second = decoded-in-width listed32 rows32 (wordOf first second)
     go true true false first second = tt
-    go true false even first second = decoded-writes listed16 rows16 (cond even first second)
+    go true false even first second = decoded-in-width listed16 rows16 (cond even first second)
     go false wide even first second = tt

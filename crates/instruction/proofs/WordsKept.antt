@@ -48,7 +48,7 @@ use Rattle.plain.specs.PlainMachine.{Effect, goesOn, exits}
 use Rattle.plain.proofs.Runs.{Leaves}
 use Rattle.place.specs.Places.{instructionAt, following}
 use Rattle.instruction.specs.Instructions.{endAt, branchTo, branchIf, exitOf, servedBy, served, effectOf, instructionOf}
-use Rattle.instruction.proofs.Words.{Below, below-set, below-take, below-store, loaded-word, extended-word, WordWritten, WritesWord, listed-writes}
+use Rattle.instruction.proofs.Words.{Below, below-set, below-take, below-store, loaded-word, extended-word, WordWritten, InWidth, in-width}
 
 -- eight registers of 32 bits, and RAM of bytes
 pub record Words (r : Record) (ram : List ℕ) : Type 0 where
@@ -196,11 +196,11 @@ module _ (page external : List ℕ) (p : Below 256 page) (e : Below 256 external
   service-words : (s : Service) → OutWords (serviceDoes (length external) s r ram)
   unfolding serviceDoes
   service-words Return = still
-  service-words Call = still
-  service-words TailCall = still
-  service-words Syscall = still
-  service-words TailSyscall = still
-  service-words LongBranch = still
+  service-words (Call a n) = still
+  service-words (TailCall a n) = still
+  service-words (Syscall n i) = still
+  service-words (TailSyscall n i) = still
+  service-words (LongBranch a) = still
   service-words Preload = still
   service-words (SetBase a) = (tt, h .bytes)
   service-words (StoreAtSp t a) = none-after _ (stack-store t (r .sp + a))
@@ -248,7 +248,7 @@ module _ (page external : List ℕ) (p : Below 256 page) (e : Below 256 external
   served-words ending.LastExit exit next o l = end-words (exits exit) (λ _ _ k. k) (r .place) o l
   served-words ending.Bad exit next o l = tt
 
-  each-words : (i : Instruction) → WritesWord i → Leaves Words (effectOf page external r ram i)
+  each-words : (i : Instruction) → InWidth i → Leaves Words (effectOf page external r ram i)
   unfolding effectOf served
   each-words (Data operation) w =
       end-words goesOn (λ _ _ k. k) (following page (r .place)) _ (w (r .regs) (r .sp) (r .flags) (h .words), h .bytes)
@@ -263,4 +263,4 @@ module _ (page external : List ℕ) (p : Below 256 page) (e : Below 256 external
 
   pub words-kept : Leaves Words (instructionOf page external r ram)
   unfolding instructionOf
-  words-kept = each-words (instructionAt page (r .place)) (listed-writes page (r .place))
+  words-kept = each-words (instructionAt page (r .place)) (in-width page (r .place))

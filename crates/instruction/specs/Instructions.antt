@@ -1,9 +1,9 @@
 -- The definition of an instruction: it reads the page at the place and isn't given the count. A fault, or what is unlisted,
 -- changes nothing.
 use Prim.Native.Nat.{ℕ, _*_}
-use mathlib.Core.Bool.{Bool, not, _&&_, cond}
+use mathlib.Core.Bool.{Bool, not, cond}
 use mathlib.Core.List.{List}
-use lib.Dec.{eqb, leb}
+use lib.Dec.{eqb}
 use lib.IntN.{pos}
 use lib.ListN.{length}
 use Rattle.bits.specs.Fields.{bits}
@@ -17,7 +17,7 @@ use Rattle.branch.specs.Branches.{targetOf}
 use Rattle.branch.specs.declared.Target.{Target}
 use Rattle.branch.specs.declared.Target.the-variants.{At}
 use Rattle.branch.specs.declared.Target.the-variants as target
-use Rattle.service.specs.Services.{serviceOf, endingOf}
+use Rattle.service.specs.Services.{takesLiteral, serviceOf, endingOf}
 use Rattle.service.specs.declared.Ending.{Ending}
 use Rattle.service.specs.declared.Ending.the-variants as ending
 use Rattle.state.specs.Record.{register, withPlace}
@@ -66,7 +66,7 @@ b imm11 r ram = branchTo r ram (targetOf (r .place) (SInt 11 (bits imm11 10 0)))
 
 -- what an exit carries: the low byte and, for 01-7F, the literal
 unfoldable pub exitOf : List ℕ → ℕ → Exit
-exitOf page n = cond (leb 0x01 n && leb n 0x7F) (byLiteral n (wordAt page n)) (direct n)
+exitOf page n = cond (takesLiteral n) (byLiteral n (wordAt page n)) (direct n)
 
 -- a terminator keeps its place at an exit, any other exit moves on
 unfoldable pub servedBy : Ending → Exit → Record → ℕ → Outcome → Effect

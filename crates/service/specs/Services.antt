@@ -1,6 +1,6 @@
 -- Services: what DFxx means by its low byte and, for 01-7F, by the literal word at that bundle number.
-use Prim.Native.Nat.{ℕ, _+_, _/_, _%_, _^_}
-use mathlib.Core.Bool.{Bool, cond}
+use Prim.Native.Nat.{ℕ, _+_, _*_, _/_, _%_, _^_}
+use mathlib.Core.Bool.{Bool, cond, _&&_}
 use mathlib.Core.List.{List, [], _∷_}
 use lib.Dec.{ltb, leb}
 use lib.ListN.{getD}
@@ -14,18 +14,35 @@ use Rattle.service.specs.declared.Service.the-variants.{Return, Call, Ta
 
 -- ---- the literal word
 
+-- 0nnnnnnn aaaaaaaa aaaaaaaa aaaaaa..: the address that a call goes to, and the words that SP is to be lowered by
+abbrev pub callAddress : ℕ → ℕ
+callAddress w = 0x80000000 + 4 * bits w 23 2
+
+abbrev pub callWords : ℕ → ℕ
+callWords w = bits w 30 24
+
 -- bit 31 clear, by the low bits: 00 call, 01 tail call, 1x bad
 unfoldable pub callOf : ℕ → Service
-callOf w = getD (Call ∷ TailCall ∷ []) (bits w 1 0) Bad
+callOf w = getD (Call (callAddress w) (callWords w) ∷ TailCall (callAddress w) (callWords w) ∷ []) (bits w 1 0) Bad
+
+-- 10nnnnnn nnnnnnnn iiiiiiii iiiiiii.: a syscall's number and immediate
+abbrev pub syscallNumber : ℕ → ℕ
+syscallNumber w = bits w 29 16
+
+abbrev pub syscallImmediate : ℕ → ℕ
+syscallImmediate w = bits w 15 1
 
 -- top bits 10: a syscall by its number up to 8191; bit 0 set means tail
 unfoldable pub syscallOf : ℕ → Service
-syscallOf w = cond (leb (bits w 29 16) 8191) (cond (bit w 0) TailSyscall Syscall) Bad
+syscallOf w =
+    cond (leb (syscallNumber w) 8191)
+    (cond (bit w 0) (TailSyscall (syscallNumber w) (syscallImmediate w)) (Syscall (syscallNumber w) (syscallImmediate w)))
+    Bad
 
--- top bits 110 or 111: operations 0 to 5 on a, the low 24 bits; 3, 4 and 5 are bad under 111
+-- top bits 110 or 111: operations 0 to 5 on a, the low 24 bits; for 111 the address is 0x80000000 + a; 3, 4 and 5 are bad there
 abbrev pub operations : Bool → ℕ → List Service
 operations external a =
-    LongBranch
+    LongBranch (cond external 0x80000000 0 + a)
     ∷ Preload
     ∷ SetBase (cond external 0x80000000 0 + a)
     ∷ cond external Bad (LowerSp a)
@@ -45,10 +62,15 @@ literalService page n = cond (ltb n (bundlesIn page)) (literalOf (wordAt page n)
 
 -- ---- the low byte: 00, 01-7F, 80-BF, C0-DF, E0-E7, E8, E9-EF, F0-F7, F8-FF
 
-unfoldable pub serviceOf : List ℕ → ℕ → Service
-serviceOf page n =
+-- a literal counts for 01-7F only
+abbrev pub takesLiteral : ℕ → Bool
+takesLiteral n = leb 0x01 n && leb n 0x7F
+
+-- where the literal word means what is given
+unfoldable pub byLowByte : ℕ → Service → Service
+byLowByte n meant =
     cond (leb n 0x00) Return
-    (cond (leb n 0x7F) (literalService page n)
+    (cond (leb n 0x7F) meant
     (cond (leb n 0xBF) (DirectSyscall (bits n 5 0))
     (cond (leb n 0xDF) (LowerSp (bits n 4 0))
     (cond (leb n 0xE7) (Validate (bits n 2 0))
@@ -56,15 +78,19 @@ serviceOf page n =
     (cond (leb n 0xEF) Bad
     (cond (leb n 0xF7) (CallRegister (bits n 2 0)) (TailCallRegister (bits n 2 0)))))))))
 
+-- in a page
+unfoldable pub serviceOf : List ℕ → ℕ → Service
+serviceOf page n = byLowByte n (literalService page n)
+
 -- ---- exits and terminators: every service that is a terminator is an exit
 
 abbrev pub endingOf : Service → Ending
 endingOf Return = LastExit
-endingOf Call = Exit
-endingOf TailCall = LastExit
-endingOf Syscall = Exit
-endingOf TailSyscall = LastExit
-endingOf LongBranch = LastExit
+endingOf (Call a n) = Exit
+endingOf (TailCall a n) = LastExit
+endingOf (Syscall n i) = Exit
+endingOf (TailSyscall n i) = LastExit
+endingOf (LongBranch a) = LastExit
 endingOf Preload = GoesOn
 endingOf (SetBase a) = GoesOn
 endingOf (StoreAtSp t a) = GoesOn

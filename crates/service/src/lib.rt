@@ -1,22 +1,23 @@
 // What a service halfword means, for the reader and the machine alike.
 ghost use mathlib.Core.Path.{_≡_};
-ghost use Rattle.service.specs.Services.{endingOf, literalOf, callOf, syscallOf, addressOperationOf, literalService, serviceOf};
+ghost use Rattle.service.specs.Services.{endingOf, literalOf, callOf, syscallOf, addressOperationOf, literalService, byLowByte, serviceOf};
 
 pub enum Service {
     Return,
-    // by the literal word
-    Call,
-    TailCall,
-    Syscall,
-    TailSyscall,
-    LongBranch,
-    Preload,
+    // by the literal word: address, words that SP is to be lowered by
+    Call(u32, u8),
+    TailCall(u32, u8),
+    // number, immediate
+    Syscall(u16, u16),
+    TailSyscall(u16, u16),
     // the address
+    LongBranch(u32),
+    Preload,
     SetBase(u32),
     // register, bytes above SP
     StoreAtSp(u8, u32),
     LoadAtSp(u8, u32),
-    // the words that SP moves down by, by the literal word or by the halfword
+    // the words that SP is lowered by, by the literal word or by the halfword
     LowerSp(u32),
     // by the halfword alone: number, or register
     DirectSyscall(u8),
@@ -42,11 +43,11 @@ pub fn ending_of(s: Service) -> Ending
 {
     match s {
         Service::Return => Ending::LastExit,
-        Service::Call => Ending::Exit,
-        Service::TailCall => Ending::LastExit,
-        Service::Syscall => Ending::Exit,
-        Service::TailSyscall => Ending::LastExit,
-        Service::LongBranch => Ending::LastExit,
+        Service::Call(_, _) => Ending::Exit,
+        Service::TailCall(_, _) => Ending::LastExit,
+        Service::Syscall(_, _) => Ending::Exit,
+        Service::TailSyscall(_, _) => Ending::LastExit,
+        Service::LongBranch(_) => Ending::LastExit,
         Service::Preload => Ending::GoesOn,
         Service::SetBase(_) => Ending::GoesOn,
         Service::StoreAtSp(_, _) => Ending::GoesOn,
@@ -66,9 +67,11 @@ fn call(w: u32) -> Service
     ensures { λ r. ⌜ r ≡ callOf w ⌝ }
 {
     let kind = bits::field(w, 0, 2);
+    let address = 0x8000_0000 + 4 * bits::field(w, 2, 22);
+    let words = bits::field(w, 24, 7) as u8;
     match kind {
-        0 => Service::Call,
-        1 => Service::TailCall,
+        0 => Service::Call(address, words),
+        1 => Service::TailCall(address, words),
         _ => Service::Bad,
     }
 }
@@ -77,13 +80,15 @@ fn call(w: u32) -> Service
 fn syscall(w: u32) -> Service
     ensures { λ r. ⌜ r ≡ syscallOf w ⌝ }
 {
-    if bits::field(w, 16, 14) > 8191 {
+    let number = bits::field(w, 16, 14) as u16;
+    let immediate = bits::field(w, 1, 15) as u16;
+    if number > 8191 {
         return Service::Bad;
     }
     if bits::field(w, 0, 1) == 1 {
-        Service::TailSyscall
+        Service::TailSyscall(number, immediate)
     } else {
-        Service::Syscall
+        Service::Syscall(number, immediate)
     }
 }
 
@@ -94,10 +99,11 @@ fn address_operation(w: u32) -> Service
     let external = bits::field(w, 29, 1);
     let operation = bits::field(w, 24, 5);
     let a = bits::field(w, 0, 24);
+    let address = 0x8000_0000 * external + a;
     match operation {
-        0 => Service::LongBranch,
+        0 => Service::LongBranch(address),
         1 => Service::Preload,
-        2 => Service::SetBase(0x8000_0000 * external + a),
+        2 => Service::SetBase(address),
         3 => if external == 0 {
             Service::LowerSp(a)
         } else {
@@ -141,9 +147,9 @@ fn by_literal(page: &[u8], n: u8) -> Service
     }
 }
 
-// The service of the halfword DFxx with low byte n.
-pub fn service_of(page: &[u8], n: u8) -> Service
-    ensures { λ r. ⌜ r ≡ serviceOf (now (page .entry)) n ⌝ }
+// The service of the halfword DFxx with low byte n, where its literal word means what is given.
+pub fn by_low_byte(n: u8, meant: Service) -> Service
+    ensures { λ r. ⌜ r ≡ byLowByte n meant ⌝ }
 {
     let w = n as u32;
     let register = bits::field(w, 0, 3) as u8;
@@ -151,7 +157,7 @@ pub fn service_of(page: &[u8], n: u8) -> Service
         return Service::Return;
     }
     if n <= 0x7F {
-        return by_literal(page, n);
+        return meant;
     }
     if n <= 0xBF {
         return Service::DirectSyscall(bits::field(w, 0, 6) as u8);
@@ -172,4 +178,15 @@ pub fn service_of(page: &[u8], n: u8) -> Service
         return Service::CallRegister(register);
     }
     Service::TailCallRegister(register)
+}
+
+// The same in a page. A literal is read only where it counts.
+pub fn service_of(page: &[u8], n: u8) -> Service
+    ensures { λ r. ⌜ r ≡ serviceOf (now (page .entry)) n ⌝ }
+{
+    if n >= 0x01 && n <= 0x7F {
+        by_literal(page, n)
+    } else {
+        by_low_byte(n, Service::Bad)
+    }
 }

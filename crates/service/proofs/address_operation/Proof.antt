@@ -20,7 +20,7 @@ unfolding addressOperationOf
 by-fields c = cc
 
 returns : tie.Need-returns
-returns c = rw (by-fields (c .before), c .match .keys1)
+returns c = rw (by-fields (c .before), c .match .keys1, times _ 29 (c .before .before .before .field .ensures))
 
 returns-2 : tie.Need-returns-2
 returns-2 c = rw (by-fields (c .before), c .match .keys2)

@@ -1,111 +1,28 @@
-use borrow.Author.Tests.{le-leb, lt-leb}
-use Rattle.service.specs.Services.{serviceOf}
+use mathlib.Core.Bool.{false}
+use mathlib.Core.Logic.{inl, inr}
+use mathlib.Core.Path.{_≡_, sym, _∙_}
+use borrow.Author.Tests.{le-leb}
+use Rattle.service.specs.Services.{takesLiteral, serviceOf, literalService}
+use Rattle.service.specs.declared.Service.the-variants.{Bad}
+use Rattle.service.proofs.Theorems.{by-literal, by-itself, below, above}
 use borrow.Author.Needs.{needs}
 use Rattle.service.proofs.service_of.Statement.{statement}
 use Rattle.service.proofs.service_of.Tie as tie
 
 returns : tie.Need-returns
 unfolding serviceOf
-returns c = rw (le-leb _ _ (c .if1 .taken))
+returns c = c .by-literal .ensures ∙ sym (by-literal _ _ (rw (le-leb _ _ (c .before .before .if1 .taken), c .before .if2 .taken)))
+
+aside : (c : tie.After-by-low-byte) → takesLiteral (c .before .before .before .args .n) ≡ false
+aside c =
+    elim (c .before .if1 .came) [
+      | inl h ↦ above (c .before .before .before .args .n) (h .1 .left)
+      | inr h ↦ below (c .before .before .before .args .n) (h .left)
+    ]
 
 returns-2 : tie.Need-returns-2
 unfolding serviceOf
-returns-2 c =
-    rw (
-      lt-leb _ _ (c .before .before .if1 .left),
-      le-leb _ _ (c .before .if2 .taken),
-    )
-    (c .by-literal .ensures)
-
-returns-3 : tie.Need-returns-3
-unfolding serviceOf
-returns-3 c =
-    rw (
-      lt-leb _ _ (c .before .before .before .if1 .left),
-      lt-leb _ _ (c .before .before .if2 .left),
-      le-leb _ _ (c .before .if3 .taken),
-      c .field2 .ensures,
-    )
-
-returns-4 : tie.Need-returns-4
-unfolding serviceOf
-returns-4 c =
-    rw (
-      lt-leb _ _ (c .before .before .before .before .if1 .left),
-      lt-leb _ _ (c .before .before .before .if2 .left),
-      lt-leb _ _ (c .before .before .if3 .left),
-      le-leb _ _ (c .before .if4 .taken),
-      c .field3 .ensures,
-    )
-
-returns-5 : tie.Need-returns-5
-unfolding serviceOf
-returns-5 c =
-    rw (
-      lt-leb _ _ (c .before .before .before .before .if1 .left),
-      lt-leb _ _ (c .before .before .before .if2 .left),
-      lt-leb _ _ (c .before .before .if3 .left),
-      lt-leb _ _ (c .before .if4 .left),
-      le-leb _ _ (c .if5 .taken),
-      c .before .before .before .before .before .field .ensures,
-    )
-
-returns-6 : tie.Need-returns-6
-unfolding serviceOf
-returns-6 c =
-    rw (
-      lt-leb _ _ (c .before .before .before .before .before .if1 .left),
-      lt-leb _ _ (c .before .before .before .before .if2 .left),
-      lt-leb _ _ (c .before .before .before .if3 .left),
-      lt-leb _ _ (c .before .before .if4 .left),
-      lt-leb _ _ (c .before .if5 .left),
-      le-leb _ _ (c .if6 .taken),
-    )
-
-returns-7 : tie.Need-returns-7
-unfolding serviceOf
-returns-7 c =
-    rw (
-      lt-leb _ _ (c .before .before .before .before .before .before .if1 .left),
-      lt-leb _ _ (c .before .before .before .before .before .if2 .left),
-      lt-leb _ _ (c .before .before .before .before .if3 .left),
-      lt-leb _ _ (c .before .before .before .if4 .left),
-      lt-leb _ _ (c .before .before .if5 .left),
-      lt-leb _ _ (c .before .if6 .left),
-      le-leb _ _ (c .if7 .taken),
-    )
-
-returns-8 : tie.Need-returns-8
-unfolding serviceOf
-returns-8 c =
-    rw (
-      lt-leb _ _ (c .before .before .before .before .before .before .before .if1 .left),
-      lt-leb _ _ (c .before .before .before .before .before .before .if2 .left),
-      lt-leb _ _ (c .before .before .before .before .before .if3 .left),
-      lt-leb _ _ (c .before .before .before .before .if4 .left),
-      lt-leb _ _ (c .before .before .before .if5 .left),
-      lt-leb _ _ (c .before .before .if6 .left),
-      lt-leb _ _ (c .before .if7 .left),
-      le-leb _ _ (c .if8 .taken),
-      c .before .before .before .before .before .before .before .before .field .ensures,
-    )
-
-returns-9 : tie.Need-returns-9
-unfolding serviceOf
-returns-9 c =
-    rw (
-      lt-leb _ _ (c .before .before .before .before .before .before .before .if1 .left),
-      lt-leb _ _ (c .before .before .before .before .before .before .if2 .left),
-      lt-leb _ _ (c .before .before .before .before .before .if3 .left),
-      lt-leb _ _ (c .before .before .before .before .if4 .left),
-      lt-leb _ _ (c .before .before .before .if5 .left),
-      lt-leb _ _ (c .before .before .if6 .left),
-      lt-leb _ _ (c .before .if7 .left),
-      lt-leb _ _ (c .if8 .left),
-      c .before .before .before .before .before .before .before .before .field .ensures,
-    )
+returns-2 c = c .by-low-byte .ensures ∙ by-itself _ Bad (literalService _ _) (aside c)
 
 pub service-of-spec : {M : Type 1} → statement M
-service-of-spec = tie.close (tie.spec (λ c κs. tt) (λ c. search needs) returns (λ c κs. tt) returns-2
-    (λ c κs. tt) (λ c. search needs) returns-3 (λ c κs. tt) returns-4 returns-5 returns-6 returns-7
-    returns-8 returns-9)
+service-of-spec = tie.close (tie.spec (λ c κs. tt) (λ c κs. tt) returns returns-2)

@@ -1,0 +1,114 @@
+-- What a host decodes of a stop is the exit of the service that stands at the place.
+use Prim.Native.Nat.{ℕ, _<_}
+use native.Mathlib.Omega.{arith}
+use mathlib.Core.Bool.{Bool, true, false, not, cond, _&&_, true≢false}
+use mathlib.Core.List.{List}
+use mathlib.Core.Logic.{inl, inr}
+use mathlib.Core.Path.{_≡_, refl, sym, ap, subst, _∙_}
+use lib.Dec.{eqb, leb, ltb}
+use borrow.Author.Tests.{le-leb}
+use Rattle.page.specs.Page.{bundlesIn, wordAt}
+use Rattle.service.specs.Services.{takesLiteral, literalOf, literalService, byLowByte, serviceOf, endingOf}
+use Rattle.service.proofs.Theorems.{by-literal, by-itself}
+use Rattle.service.specs.declared.Service.{Service}
+use Rattle.service.specs.declared.Service.the-variants.{Return, Call, TailCall, Syscall, TailSyscall, LongBranch, Preload, SetBase, StoreAtSp, LoadAtSp, LowerSp, DirectSyscall, Validate, Breakpoint, CallRegister, TailCallRegister, Bad}
+use Rattle.state.specs.declared.Record.{Record}
+use Rattle.stop.specs.Stops.{Exit, direct, byLiteral}
+use Rattle.instruction.specs.Instructions.{exitOf}
+use Rattle.instruction.specs.Fitness.{ServiceAt, isExit}
+use Rattle.series.specs.Demand3.{StopsBy, OwnCall}
+use Rattle.claims.specs.Demand3.{Setting}
+use Rattle.instruction.proofs.Words.{InWidth, in-width}
+use Rattle.crossing.specs.Exits.{exitNumbers, decodedExit}
+use Rattle.crossing.specs.declared.ExitNumbers.{ExitNumbers}
+use Rattle.crossing.specs.declared.StopNumbers.{StopNumbers}
+use Rattle.host_claims.specs.HostCalls.{crossedBy, stopIn}
+use Rattle.host_claims.specs.HostSeries.{RecordCall, handedRecord, gaveRecord, hostMachine}
+use Rattle.host_claims.specs.HostExits.{decodedStop, AtService, Decodes}
+
+-- kind 0 is that of the services that are no exits
+pub kinds : (s : Service) → eqb (exitNumbers s .kind) 0 ≡ not (isExit (endingOf s))
+kinds Return = refl
+kinds (Call a n) = refl
+kinds (TailCall a n) = refl
+kinds (Syscall n i) = refl
+kinds (TailSyscall n i) = refl
+kinds (LongBranch a) = refl
+kinds Preload = refl
+kinds (SetBase a) = refl
+kinds (StoreAtSp t a) = refl
+kinds (LoadAtSp t a) = refl
+kinds (LowerSp a) = refl
+kinds (DirectSyscall n) = refl
+kinds (Validate n) = refl
+kinds Breakpoint = refl
+kinds (CallRegister n) = refl
+kinds (TailCallRegister n) = refl
+kinds Bad = refl
+
+in-page : (page : List ℕ) (n : ℕ) → isExit (endingOf (literalService page n)) ≡ true → literalService page n ≡ literalOf (wordAt page n)
+unfolding literalService
+in-page page n x = go (ltb n (bundlesIn page)) x
+  where
+    go : (t : Bool) → isExit (endingOf (cond t (literalOf (wordAt page n)) Bad)) ≡ true → cond t (literalOf (wordAt page n)) Bad ≡ literalOf (wordAt page n)
+    go true x = refl
+    go false x = absurd (true≢false (sym x))
+
+-- the exit of a low byte with any literal, where the page's has to count
+told : (page : List ℕ) (n w : ℕ) → n < 256 → isExit (endingOf (serviceOf page n)) ≡ true
+    → (takesLiteral n ≡ true → w ≡ wordAt page n) → decodedExit n w ≡ exitNumbers (serviceOf page n)
+unfolding serviceOf
+told page n w l x h = rw (le-leb n 0xFF (omega arith)) (go (takesLiteral n) refl)
+  where
+    go : (t : Bool) → takesLiteral n ≡ t → exitNumbers (byLowByte n (literalOf w)) ≡ exitNumbers (byLowByte n (literalService page n))
+    go true e =
+        let meant = by-literal n (literalService page n) e in
+        rw (by-literal n (literalOf w) e, meant, h e)
+        (ap exitNumbers (sym (in-page page n (subst (λ s. isExit (endingOf s) ≡ true) meant x))))
+    go false e = ap exitNumbers (by-itself n (literalOf w) (literalService page n) e)
+
+-- ---- what an exit carries
+
+reports-direct : (page : List ℕ) (n low : ℕ) → direct n ≡ exitOf page low → (takesLiteral low ≡ false) × (n ≡ low)
+unfolding exitOf
+reports-direct page n low e = go (takesLiteral low) refl e
+  where
+    go : (t : Bool) → takesLiteral low ≡ t → direct n ≡ cond t (byLiteral low (wordAt page low)) (direct low)
+        → (takesLiteral low ≡ false) × (n ≡ low)
+    go true t e = (cc, cc)
+    go false t e = (t, cc)
+
+reports-literal : (page : List ℕ) (n w low : ℕ) → byLiteral n w ≡ exitOf page low → (n ≡ low) × (w ≡ wordAt page low)
+unfolding exitOf
+reports-literal page n w low e = go (takesLiteral low) e
+  where
+    go : (t : Bool) → byLiteral n w ≡ cond t (byLiteral low (wordAt page low)) (direct low) → (n ≡ low) × (w ≡ wordAt page low)
+    go true e = (cc, cc)
+    go false e = (cc, cc)
+
+module _ (page : List ℕ) (r : Record) {exit : Exit} (here : ServiceAt page r exit) where
+  decodes-at : (stop : StopNumbers) → stop .value ≡ here .low
+      → (takesLiteral (here .low) ≡ true → stop .literal ≡ wordAt page (here .low))
+      → Decodes page stop
+  decodes-at stop v h =
+      let low = subst InWidth (here .stands) (in-width page (r .place)) in
+      let decoded : decodedStop stop ≡ exitNumbers (serviceOf page (here .low)) = rw v (told page (here .low) (stop .literal) low (here .column) h) in
+      record {
+        low = here .low;
+        decodes = decoded;
+        is-exit = ap (λ (x : ExitNumbers). eqb (x .kind) 0) decoded ∙ kinds (serviceOf page (here .low)) ∙ ap not (here .column);
+      }
+
+-- a host's call that stops at a service, as demand 3 has it of each, tells what decodes to the exit of a service of the page
+pub exit-decoded : (setting : Setting) (c : RecordCall) → OwnCall (hostMachine setting) (handedRecord c) (gaveRecord c)
+    → AtService (crossedBy (c .call) .stop) → Decodes (setting .page) (crossedBy (c .call) .stop)
+exit-decoded setting c sound (inl e) =
+    let stop = crossedBy (c .call) .stop in
+    let here = subst (λ k. StopsBy (hostMachine setting) (handedRecord c) (gaveRecord c) (stopIn k (stop .value) (stop .literal))) e (sound .stops) .1 in
+    let carries = reports-direct (setting .page) (stop .value) (here .low) (here .reports) in
+    decodes-at (setting .page) _ here stop (carries .1) (λ t. absurd (true≢false (sym t ∙ carries .0)))
+exit-decoded setting c sound (inr e) =
+    let stop = crossedBy (c .call) .stop in
+    let here = subst (λ k. StopsBy (hostMachine setting) (handedRecord c) (gaveRecord c) (stopIn k (stop .value) (stop .literal))) e (sound .stops) .1 in
+    let carries = reports-literal (setting .page) (stop .value) (stop .literal) (here .low) (here .reports) in
+    decodes-at (setting .page) _ here stop (carries .0) (λ t. carries .1)

@@ -1,0 +1,5 @@
+-- The library's version, 0.2.0, as one number.
+use Prim.Native.Nat.{ℕ, _+_, _*_}
+
+abbrev pub libraryVersion : ℕ
+libraryVersion = 65536 * 0 + 256 * 2 + 0

@@ -1,0 +1,205 @@
+// The calls that a host links, in C's way: one that can be refused answers 0, a refusal's number or 255, and the rest is given in lent
+// numbers and bytes. A record crosses as its 44 bytes, fit or not.
+ghost use mathlib.Core.Path.{_≡_};
+ghost use lib.ListN.{length};
+ghost use Rattle.state.specs.Record.{freshRecord};
+ghost use Rattle.state.specs.Validation.{validateBase};
+ghost use Rattle.count.specs.Count.{countPage};
+ghost use Rattle.bundle.specs.Reader.{readBundle};
+ghost use Rattle.layout.specs.StoredForm.{roomWith};
+ghost use Rattle.crossing.specs.Exits.{decodedExit};
+ghost use Rattle.crossing.specs.Numbers.{codeOf, largestKind, largestNumber};
+ghost use Rattle.marshbodkin.specs.Crossing.{freshDecision, formDecision, formRoom};
+ghost use Rattle.marshbodkin.specs.HostRuns.{answered, hostRun};
+ghost use Rattle.marshbodkin.specs.Version.{libraryVersion};
+use refusal::Refusal;
+use refusal::Verdict;
+
+// ---- pages and bases
+
+// The count of a page.
+#[no_mangle]
+pub extern "C" fn mb_raw_count(page: &[u8], count: &mut u32) -> u32
+    ensures { λ code. ⌜ (code ≡ codeOf (countPage (now (page .entry)) .decision)) × (now (count .exit) ≡ countPage (now (page .entry)) .count) ⌝ }
+{
+    let counted = count::count(page);
+    let verdict = counted.verdict;
+    *count = counted.count;
+    crossing::code_of(verdict)
+}
+
+// Bundle k of a page: 0 bad, 1 no successor, 2 the largest successor.
+#[no_mangle]
+pub extern "C" fn mb_raw_read_bundle(page: &[u8], k: u32, kind: &mut u32, largest: &mut u32) -> u32
+    ensures { λ code. ⌜ (code ≡ codeOf (readBundle (now (page .entry)) k .decision))
+        × (now (kind .exit) ≡ largestKind (readBundle (now (page .entry)) k .reading))
+        × (now (largest .exit) ≡ largestNumber (readBundle (now (page .entry)) k .reading)) ⌝ }
+{
+    let read = bundle::read_bundle(page, k);
+    let verdict = read.verdict;
+    let successor = read.largest;
+    *kind = crossing::largest_kind(successor);
+    *largest = crossing::largest_number(successor);
+    crossing::code_of(verdict)
+}
+
+// The base of an address: 0 none, 1 RAM, 2 external, and the offset.
+#[no_mangle]
+pub extern "C" fn mb_raw_validate(v: u32, external: &[u8], kind: &mut u32, offset: &mut u32) -> u32
+    ensures { λ code. ⌜ (code ≡ codeOf (validateBase v (length (now (external .entry))) .decision))
+        × (now (kind .exit) ≡ validateBase v (length (now (external .entry))) .kind)
+        × (now (offset .exit) ≡ validateBase v (length (now (external .entry))) .offset) ⌝ }
+{
+    let validated = state::validate(v, external);
+    let verdict = validated.verdict;
+    let base = validated.base;
+    *kind = layout::kind_of(base);
+    *offset = layout::offset_of(base);
+    crossing::code_of(verdict)
+}
+
+// ---- records
+
+// The fresh record.
+#[no_mangle]
+pub extern "C" fn mb_raw_fresh(bytes: &mut [u8]) -> u32
+    ensures { λ code. ⌜ (code ≡ codeOf (freshDecision (now (bytes .entry)))) × (now (bytes .exit) ≡ roomWith freshRecord (now (bytes .entry))) ⌝ }
+{
+    if layout::write(state::fresh_record(), bytes) {
+        0
+    } else {
+        refusal::number(Refusal::FormLength) as u32
+    }
+}
+
+// Stores a record.
+#[no_mangle]
+pub extern "C" fn mb_raw_store(bytes: &[u8], room: &mut [u8]) -> u32
+    ensures { λ code. ⌜ (code ≡ codeOf (formDecision (now (bytes .entry)) (now (room .entry))))
+        × (now (room .exit) ≡ formRoom (now (bytes .entry)) (now (room .entry))) ⌝ }
+{
+    if room.len() != 44 {
+        return refusal::number(Refusal::FormLength) as u32;
+    }
+    if bytes.len() != 44 {
+        return refusal::number(Refusal::FormLength) as u32;
+    }
+    if !layout::holds_record(bytes) {
+        return refusal::number(Refusal::FormRange) as u32;
+    }
+    crossing::code_of(form::store(layout::record_in(bytes), room))
+}
+
+// Reads a record back.
+#[no_mangle]
+pub extern "C" fn mb_raw_load(stored: &[u8], bytes: &mut [u8]) -> u32
+    ensures { λ code. ⌜ (code ≡ codeOf (formDecision (now (stored .entry)) (now (bytes .entry))))
+        × (now (bytes .exit) ≡ formRoom (now (stored .entry)) (now (bytes .entry))) ⌝ }
+{
+    if bytes.len() != 44 {
+        return refusal::number(Refusal::FormLength) as u32;
+    }
+    let answer = form::load(stored);
+    let verdict = answer.verdict;
+    let loaded = answer.loaded;
+    match verdict {
+        Verdict::Accepted => {
+            layout::write(loaded, bytes);
+            0
+        }
+        Verdict::Refused(why) => refusal::number(why) as u32,
+    }
+}
+
+// ---- steps and runs
+
+// A run with a budget. The stop is a kind with a value and a literal.
+#[no_mangle]
+pub extern "C" fn mb_raw_run(
+    page: &[u8],
+    ram: &mut [u8],
+    external: &[u8],
+    bytes: &mut [u8],
+    budget: u32,
+    kind: &mut u32,
+    value: &mut u32,
+    literal: &mut u32,
+    steps: &mut u32,
+) -> u32
+    ensures { λ code. ⌜ answered code (now (kind .exit)) (now (value .exit)) (now (literal .exit)) (now (steps .exit)) (now (bytes .exit)) (now (ram .exit))
+        ≡ hostRun (now (page .entry)) (now (external .entry)) budget (now (bytes .entry)) (now (ram .entry)) ⌝ }
+{
+    if !layout::holds_record(&bytes[..]) {
+        let code = crossing::no_record_code(admission::of_areas(page, &ram[..], external));
+        *kind = 5;
+        *value = code;
+        *literal = 0;
+        *steps = 0;
+        return code;
+    }
+    let answer = machine::run(page, ram, external, layout::record_in(&bytes[..]), budget);
+    let stop = answer.stop;
+    let after = answer.after;
+    layout::write(after, bytes);
+    let numbers = crossing::numbers_of(stop);
+    *kind = numbers.kind;
+    *value = numbers.value;
+    *literal = numbers.literal;
+    *steps = answer.steps;
+    numbers.code
+}
+
+// A step is a run with budget 1.
+#[no_mangle]
+pub extern "C" fn mb_raw_step(
+    page: &[u8],
+    ram: &mut [u8],
+    external: &[u8],
+    bytes: &mut [u8],
+    kind: &mut u32,
+    value: &mut u32,
+    literal: &mut u32,
+    steps: &mut u32,
+) -> u32
+    ensures { λ code. ⌜ answered code (now (kind .exit)) (now (value .exit)) (now (literal .exit)) (now (steps .exit)) (now (bytes .exit)) (now (ram .exit))
+        ≡ hostRun (now (page .entry)) (now (external .entry)) 1 (now (bytes .entry)) (now (ram .entry)) ⌝ }
+{
+    mb_raw_run(page, ram, external, bytes, 1, kind, value, literal, steps)
+}
+
+// The exit of a low byte with its literal: what a stop at a service asks of the host.
+#[no_mangle]
+pub extern "C" fn mb_raw_exit(
+    low: u32,
+    literal: u32,
+    kind: &mut u32,
+    number: &mut u32,
+    immediate: &mut u32,
+    address: &mut u32,
+    words: &mut u32,
+)
+    ensures { λ _. ⌜ record { kind = now (kind .exit); number = now (number .exit); immediate = now (immediate .exit); address = now (address .exit); words = now (words .exit) }
+        ≡ decodedExit low literal ⌝ }
+{
+    let exit = crossing::decoded_exit(low, literal);
+    *kind = exit.kind;
+    *number = exit.number;
+    *immediate = exit.immediate;
+    *address = exit.address;
+    *words = exit.words;
+}
+
+// ---- the library itself
+
+const MAJOR: u32 = 0;
+
+const MINOR: u32 = 2;
+
+const PATCH: u32 = 0;
+
+#[no_mangle]
+pub extern "C" fn mb_raw_version() -> u32
+    ensures { λ version. ⌜ version ≡ libraryVersion ⌝ }
+{
+    65536 * MAJOR + 256 * MINOR + PATCH
+}
