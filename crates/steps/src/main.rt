@@ -8,11 +8,12 @@ ghost use Prim.Native.Nat.{_≤_};
 ghost use lib.ListN.{length};
 use arm::Flags;
 use endian::Size;
-use libc::STDIN_FILENO;
-use libc::STDOUT_FILENO;
 use machine::Answer;
 use state::Base;
 use state::Record;
+use streams::Input;
+
+const PROGRAM: [u8; 5] = *b"steps";
 
 // ---- the fields of a line
 
@@ -80,7 +81,7 @@ fn assemble(line: &[u8], page: &mut [u8]) -> usize
 // ---- calls
 
 fn show(text: &[u8]) {
-    io::write_all(STDOUT_FILENO, text);
+    streams::write_output(&PROGRAM, text);
 }
 
 fn show_line(text: &[u8]) {
@@ -278,8 +279,10 @@ fn two_steps() {
 
 fn main() {
     let mut input = [0u8; 16384];
-    let n = io::read_full(STDIN_FILENO, &mut input);
-    run_lines(&input[..n]);
+    let Input::Bytes(n) = streams::read_input(&PROGRAM, &mut input) else {
+        return;
+    };
+    run_lines(text::first(&input, n));
     refusal_order();
     refused_lengths();
     bases();

@@ -1,6 +1,5 @@
 // Runs the pages and edges of the build paper that are not starred, and the refusals, and prints what came out.
 use endian::Size;
-use libc::STDOUT_FILENO;
 use memory::Fault;
 use memory::Loaded;
 use memory::Stored;
@@ -8,12 +7,21 @@ use refusal::Verdict;
 use state::Base;
 
 fn show(text: &[u8]) {
-    io::write_all(STDOUT_FILENO, text);
+    streams::write_output(b"vectors", text);
 }
 
 fn show_number(x: u64) {
+    let mut digits = [0u8; 20];
+    let n = io::decimal(x, &mut digits);
     show(b" ");
-    io::print_decimal(STDOUT_FILENO, x);
+    show(&digits[..n]);
+}
+
+// In hex, with at least that many digits.
+fn show_hex(x: u32, least: usize) {
+    let mut digits = [0u8; 16];
+    let n = io::hex(x as u64, least, &mut digits);
+    show(&digits[..n]);
 }
 
 fn show_verdict(verdict: Verdict) {
@@ -68,19 +76,19 @@ fn validate(v: u32, external: &[u8]) {
     let answer = state::validate(v, external);
     let base = answer.base;
     let verdict = answer.verdict;
-    io::print_hex(STDOUT_FILENO, v as u64, 8);
+    show_hex(v, 8);
     match base {
         Base::Nothing => {
             show(b" none\n");
         }
         Base::Ram(offset) => {
             show(b" ram ");
-            io::print_hex(STDOUT_FILENO, offset as u64, 5);
+            show_hex(offset, 5);
             show(b"\n");
         }
         Base::External(offset) => {
             show(b" external ");
-            io::print_hex(STDOUT_FILENO, offset as u64, 6);
+            show_hex(offset, 6);
             show(b"\n");
         }
     }
