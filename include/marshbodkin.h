@@ -1,69 +1,82 @@
-/* The calls of the proved library, for a host in C or C++. Link with libhost.a.
+/* Marshbodkin for a host in C99 or C++11. Link with libmarshbodkin.a.
  *
- * "01" is the build paper; its words and numbers are used here.
+ * docs/MACHINE.md is the machine. "01" is the build paper, whose words and
+ * numbers are used there and here.
  *
- * What every call answers: 0 (accepted), the number of a refusal or, for a
- * step and a run, MB_NO_RECORD. The rest comes back in the numbers and bytes
- * that are lent. A refused call changes none of the lent bytes.
- *
- * A record is lent as 44 bytes in the layout of 01's stored form (MB_AT_*),
- * but without its range tests: a record that isn't fit can cross, and a step
- * or a run then refuses it. Bytes hold no record if their number isn't 44, the
- * base kind is above 2, the offset isn't zero though the kind is none, or the
- * flags are above 15.
+ * What a call that can be refused answers: 0 (accepted) or the number of a
+ * refusal, one of "Answers" below. The rest it writes into what it is lent for
+ * it. A refused call writes an empty result there (count 0, no base, a stop of
+ * kind MB_STOP_REFUSED), and leaves record, RAM and room as they were.
  *
  * What the caller owes, in every call:
- * - no pointer is null, not even where the length is 0;
- * - each area is as long as its length says, and stays valid during the call;
- * - no two areas overlap, the lent numbers among them;
- * - nothing else writes a lent area during the call, or reads one that the
- *   call may write.
+ * - an area of bytes is as long as its length says; it may be null if that is 0;
+ * - no other pointer is null, but that to an mb_refused;
+ * - what is lent stays valid during the call;
+ * - what the call may write overlaps nothing else that it is lent;
+ * - nothing else writes what is lent, or reads what the call may write, meanwhile.
+ *
+ * What is guaranteed of the archive:
+ * - it is reentrant: nothing global or static is ever written, so threads may
+ *   call at once, and share what is only read (page, external data);
+ * - it uses no heap, and at most MB_STACK_BYTES of stack in a call (measured);
+ * - it calls nothing outside itself, not even the C library;
+ * - it is for x86-64 with the System V calling convention.
  *
  * In a series of steps and runs, hand each call the record and RAM exactly as
- * the call before left them: what is proved of a series is proved of such.
+ * the call before left them: what is proved of a series is proved of such. A
+ * record that the host changes starts a new series.
  */
 #ifndef MARSHBODKIN_H
 #define MARSHBODKIN_H
 
 #include <stddef.h>
 #include <stdint.h>
+#ifndef __cplusplus
+#include <stdbool.h>
+#endif
+
+/* The version of this header, which is for the archive of the same version:
+ * hold it against mb_version(). */
+#define MB_VERSION_MAJOR 0
+#define MB_VERSION_MINOR 2
+#define MB_VERSION_PATCH 0
+#define MB_VERSION (65536u * MB_VERSION_MAJOR + 256u * MB_VERSION_MINOR + MB_VERSION_PATCH)
 
 #ifdef __cplusplus
 extern "C" {
 #endif
 
+/* ---- Numbers */
+
 /* Sizes in bytes. */
 enum {
-    MB_RECORD_LENGTH = 44,
+    MB_RECORD_BYTES = 44,        /* a stored record */
     MB_RAM_BYTES = 32768,
-    MB_PAGE_MOST = 256,         /* and a multiple of 4 */
-    MB_EXTERNAL_MOST = 16777216 /* and a multiple of 256 */
+    MB_BUNDLE_BYTES = 4,
+    MB_PAGE_MOST = 256,          /* and whole bundles */
+    MB_EXTERNAL_PAGE_BYTES = 256,
+    MB_EXTERNAL_MOST = 16777216, /* and whole external pages */
+    MB_STACK_BYTES = 1024        /* the most that a call of the archive takes */
 };
 
-/* Where the parts of a record stand in its 44 bytes, lowest byte first. */
-enum {
-    MB_AT_REGISTERS = 0,  /* r0 to r7, 4 bytes each */
-    MB_AT_SP = 32,        /* 4 bytes */
-    MB_AT_BASE_KIND = 36, /* 1 byte, one of MB_BASE_* */
-    MB_AT_OFFSET = 37,    /* 4 bytes, zero for none */
-    MB_AT_PLACE = 41,     /* 2 bytes */
-    MB_AT_FLAGS = 43      /* 1 byte: 8N+4Z+2C+V */
-};
+/* Where RAM and external data begin, as addresses. */
+#define MB_RAM_START 0x10000u
+#define MB_EXTERNAL_START 0x80000000u
 
 /* Answers. 1 to 8 are 01's refusals, tested in this order. */
 enum {
     MB_ACCEPTED = 0,
-    MB_PAGE_LENGTH = 1,
-    MB_RAM_LENGTH = 2,
-    MB_EXTERNAL_LENGTH = 3,
-    MB_UNFIT_RECORD = 4,
-    MB_UNFIT_PLACE = 5,
-    MB_FORM_LENGTH = 6,
-    MB_FORM_RANGE = 7,
-    MB_NO_SUCH_BUNDLE = 8,
-    /* The host's own, of a step and a run: the bytes hold no record. It stands
-     * after 1, 2 and 3, before 4. Only the lent numbers are written. */
-    MB_NO_RECORD = 255
+    MB_REFUSED_PAGE_LENGTH = 1,
+    MB_REFUSED_RAM_LENGTH = 2,
+    MB_REFUSED_EXTERNAL_LENGTH = 3,
+    MB_REFUSED_UNFIT_RECORD = 4,
+    MB_REFUSED_UNFIT_PLACE = 5,
+    MB_REFUSED_FORM_LENGTH = 6,
+    MB_REFUSED_FORM_RANGE = 7,
+    MB_REFUSED_NO_SUCH_BUNDLE = 8,
+    /* The library's own, of a step and a run: a base kind above 2, or an offset
+     * with MB_BASE_NONE. It stands after 1, 2 and 3, before 4. */
+    MB_REFUSED_NO_RECORD = 255
 };
 
 /* What the reader says of a bundle. */
@@ -78,7 +91,7 @@ enum {
     MB_STOP_SERVICE = 1,            /* value: low byte */
     MB_STOP_SERVICE_BY_LITERAL = 2, /* value: low byte; literal: the word */
     MB_STOP_FAULT = 3,              /* value: one of MB_FAULT_* */
-    MB_STOP_UNLISTED = 4,           /* never given: demand 3 */
+    MB_STOP_UNLISTED = 4,           /* proved never to come */
     MB_STOP_REFUSED = 5             /* value: what the call answers */
 };
 
@@ -92,49 +105,402 @@ enum {
     MB_FAULT_PAST_PAGE = 6          /* literal load past the page */
 };
 
+/* What a service exit asks of the host, and the parts that say more of it. */
+enum {
+    MB_EXIT_NONE = 0,               /* no exit, or a bad service */
+    MB_EXIT_RETURN = 1,
+    MB_EXIT_CALL = 2,               /* address, words */
+    MB_EXIT_TAIL_CALL = 3,          /* address, words */
+    MB_EXIT_SYSCALL = 4,            /* number, immediate */
+    MB_EXIT_TAIL_SYSCALL = 5,       /* number, immediate */
+    MB_EXIT_LONG_BRANCH = 6,        /* address */
+    MB_EXIT_DIRECT_SYSCALL = 7,     /* number */
+    MB_EXIT_BREAKPOINT = 8,
+    MB_EXIT_CALL_REGISTER = 9,      /* number: of the register */
+    MB_EXIT_TAIL_CALL_REGISTER = 10 /* number: of the register */
+    /* In the register stands such a word as a call's literal, of which bits 31,
+     * 1 and 0 are ignored: mb_exit(1, word & 0x7FFFFFFC) has address and words. */
+};
+
+/* ---- The proved calls
+ *
+ * The archive's functions as they are proved, over bytes and numbers, with a
+ * record as the 44 bytes of docs/MACHINE.md's stored form. No pointer may be
+ * null, not even where the length is 0. A host uses the calls further below,
+ * which are over these. */
+
+uint32_t mb_raw_version(void);
+
+uint32_t mb_raw_count(const uint8_t *page, size_t page_length, uint32_t *count);
+
+uint32_t mb_raw_read_bundle(const uint8_t *page, size_t page_length, uint32_t k,
+                            uint32_t *kind, uint32_t *largest);
+
+uint32_t mb_raw_validate(uint32_t v, const uint8_t *external, size_t external_length,
+                         uint32_t *kind, uint32_t *offset);
+
+/* Refused (6): the length isn't 44. */
+uint32_t mb_raw_fresh(uint8_t *record, size_t record_length);
+
+uint32_t mb_raw_store(const uint8_t *record, size_t record_length,
+                      uint8_t *room, size_t room_length);
+
+uint32_t mb_raw_load(const uint8_t *stored, size_t stored_length,
+                     uint8_t *record, size_t record_length);
+
+/* The record crosses without the stored form's range tests, so that one that
+ * isn't fit is refused by 4 or 5. Bytes that hold no record (255) are not 44, or
+ * have a base kind above 2, an offset though the kind is none, or flags above 15. */
+uint32_t mb_raw_run(const uint8_t *page, size_t page_length,
+                    uint8_t *ram, size_t ram_length,
+                    const uint8_t *external, size_t external_length,
+                    uint8_t *record, size_t record_length, uint32_t budget,
+                    uint32_t *kind, uint32_t *value, uint32_t *literal,
+                    uint32_t *steps);
+
+uint32_t mb_raw_step(const uint8_t *page, size_t page_length,
+                     uint8_t *ram, size_t ram_length,
+                     const uint8_t *external, size_t external_length,
+                     uint8_t *record, size_t record_length,
+                     uint32_t *kind, uint32_t *value, uint32_t *literal,
+                     uint32_t *steps);
+
+void mb_raw_exit(uint32_t low, uint32_t literal,
+                 uint32_t *kind, uint32_t *number, uint32_t *immediate,
+                 uint32_t *address, uint32_t *words);
+
+/* ---- What a host keeps
+ *
+ * Fields will be added: the syscalls that never return, a profile, a window of
+ * RAM. So make these by their initialisers, never field by field: what those
+ * give then means what it means now. */
+
+/* A filter. By mb_program_of. */
+typedef struct {
+    const uint8_t *page;
+    size_t page_length;
+} mb_program;
+
+/* What a filter runs on, RAM aside. By mb_setting_of. */
+typedef struct {
+    mb_program program;
+    const uint8_t *external;
+    size_t external_length;
+} mb_setting;
+
+/* The base of a record, and what validation gives. */
+typedef struct {
+    uint8_t kind;    /* one of MB_BASE_* */
+    uint32_t offset; /* 0 for none */
+} mb_base;
+
+/* A record. By mb_fresh, and then changed as the host likes. */
+typedef struct {
+    uint32_t r[8];
+    uint32_t sp;
+    mb_base base;
+    uint16_t place; /* of a halfword: twice the bundle's number, for its first */
+    bool n, z, c, v;
+} mb_record;
+
+/* What a step or a run came to. By mb_nothing_run. */
+typedef struct {
+    uint32_t kind; /* one of MB_STOP_* */
+    uint32_t value, literal; /* 0 where the kind carries none */
+    uint32_t steps;
+} mb_stopped;
+
+/* ---- What calls give besides; a call writes all of it. */
+
+typedef struct {
+    uint32_t kind;    /* one of MB_SUCCESSOR_* */
+    uint32_t largest; /* the largest successor, 0 if there is none */
+} mb_reading;
+
+/* What a store or load says: the number that it answers. Later, where. */
+typedef struct {
+    uint32_t number;
+} mb_refused;
+
+/* A part that the kind doesn't name is 0. */
+typedef struct {
+    uint32_t kind; /* one of MB_EXIT_* */
+    uint32_t number;
+    uint32_t immediate;
+    uint32_t address;
+    uint32_t words; /* that SP is to be lowered by */
+} mb_exit_parts;
+
+/* ---- Internal: a host has no use for what begins with mb_internal. */
+
+/* What is lent for an area to be read, and for one to be written: for one of
+ * length 0, which may be null, a byte of the call's own. */
+static inline const uint8_t *mb_internal_read(const uint8_t *area, size_t length, const uint8_t *own)
+{
+    return length == 0 ? own : area;
+}
+
+static inline uint8_t *mb_internal_written(uint8_t *area, size_t length, uint8_t *own)
+{
+    return length == 0 ? own : area;
+}
+
+static inline void mb_internal_put(uint8_t *bytes, size_t width, uint32_t value)
+{
+    for (size_t i = 0; i < width; i++)
+        bytes[i] = (uint8_t)(value >> (8 * i));
+}
+
+static inline uint32_t mb_internal_get(const uint8_t *bytes, size_t width)
+{
+    uint32_t value = 0;
+    for (size_t i = 0; i < width; i++)
+        value |= (uint32_t)bytes[i] << (8 * i);
+    return value;
+}
+
+/* Where the parts of a record stand in its 44 bytes, r0 to r7 first. */
+enum {
+    MB_INTERNAL_AT_SP = 32,
+    MB_INTERNAL_AT_KIND = 36,
+    MB_INTERNAL_AT_OFFSET = 37,
+    MB_INTERNAL_AT_PLACE = 41,
+    MB_INTERNAL_AT_FLAGS = 43 /* 8N + 4Z + 2C + V */
+};
+
+static inline void mb_internal_pack(const mb_record *record, uint8_t *bytes)
+{
+    uint32_t flags = (record->n ? 8u : 0u) | (record->z ? 4u : 0u) | (record->c ? 2u : 0u) | (record->v ? 1u : 0u);
+    for (size_t i = 0; i < 8; i++)
+        mb_internal_put(bytes + 4 * i, 4, record->r[i]);
+    mb_internal_put(bytes + MB_INTERNAL_AT_SP, 4, record->sp);
+    mb_internal_put(bytes + MB_INTERNAL_AT_KIND, 1, record->base.kind);
+    mb_internal_put(bytes + MB_INTERNAL_AT_OFFSET, 4, record->base.offset);
+    mb_internal_put(bytes + MB_INTERNAL_AT_PLACE, 2, record->place);
+    mb_internal_put(bytes + MB_INTERNAL_AT_FLAGS, 1, flags);
+}
+
+static inline void mb_internal_unpack(const uint8_t *bytes, mb_record *record)
+{
+    uint32_t flags = mb_internal_get(bytes + MB_INTERNAL_AT_FLAGS, 1);
+    for (size_t i = 0; i < 8; i++)
+        record->r[i] = mb_internal_get(bytes + 4 * i, 4);
+    record->sp = mb_internal_get(bytes + MB_INTERNAL_AT_SP, 4);
+    record->base.kind = (uint8_t)mb_internal_get(bytes + MB_INTERNAL_AT_KIND, 1);
+    record->base.offset = mb_internal_get(bytes + MB_INTERNAL_AT_OFFSET, 4);
+    record->place = (uint16_t)mb_internal_get(bytes + MB_INTERNAL_AT_PLACE, 2);
+    record->n = (flags & 8u) != 0;
+    record->z = (flags & 4u) != 0;
+    record->c = (flags & 2u) != 0;
+    record->v = (flags & 1u) != 0;
+}
+
+static inline uint32_t mb_internal_said(uint32_t answer, mb_refused *refused)
+{
+    if (refused != NULL)
+        refused->number = answer;
+    return answer;
+}
+
+/* ---- Initialisers */
+
+static inline mb_program mb_program_of(const uint8_t *page, size_t page_length)
+{
+    mb_program program;
+    program.page = page;
+    program.page_length = page_length;
+    return program;
+}
+
+static inline mb_setting mb_setting_of(mb_program program, const uint8_t *external, size_t external_length)
+{
+    mb_setting setting;
+    setting.program = program;
+    setting.external = external;
+    setting.external_length = external_length;
+    return setting;
+}
+
+/* 01's fresh record. */
+static inline mb_record mb_fresh(void)
+{
+    uint8_t bytes[MB_RECORD_BYTES];
+    mb_record record;
+    mb_raw_fresh(bytes, sizeof bytes); /* refuses another length alone */
+    mb_internal_unpack(bytes, &record);
+    return record;
+}
+
+/* Before the first run: a stop at the budget after 0 steps. */
+static inline mb_stopped mb_nothing_run(void)
+{
+    mb_stopped stopped;
+    stopped.kind = MB_STOP_BUDGET;
+    stopped.value = 0;
+    stopped.literal = 0;
+    stopped.steps = 0;
+    return stopped;
+}
+
+/* ---- Calls */
+
+/* The archive's version, as MB_VERSION has it. */
+static inline uint32_t mb_version(void)
+{
+    return mb_raw_version();
+}
+
 /* The count of a page. Refused (1): count 0. */
-uint32_t mb_count(const uint8_t *page, size_t page_length, uint32_t *count);
+static inline uint32_t mb_count(const mb_program *program, uint32_t *count)
+{
+    const uint8_t own = 0;
+    return mb_raw_count(mb_internal_read(program->page, program->page_length, &own), program->page_length, count);
+}
 
-/* Bundle k of a page: kind is one of MB_SUCCESSOR_*, largest the largest successor
- * (0 if there is none). Refused (1, 8): a bad bundle. */
-uint32_t mb_read_bundle(const uint8_t *page, size_t page_length, uint32_t k,
-                        uint32_t *kind, uint32_t *largest);
+/* Bundle k of a page. Refused (1, 8): a bad bundle. */
+static inline uint32_t mb_read_bundle(const mb_program *program, uint32_t k, mb_reading *reading)
+{
+    const uint8_t own = 0;
+    return mb_raw_read_bundle(mb_internal_read(program->page, program->page_length, &own), program->page_length,
+                              k, &reading->kind, &reading->largest);
+}
 
-/* The base of address v: kind is one of MB_BASE_*, offset is zero for none.
+/* The base of an address. Of the setting, the external data alone is looked at.
  * Refused (3): none. */
-uint32_t mb_validate(uint32_t v, const uint8_t *external, size_t external_length,
-                     uint32_t *kind, uint32_t *offset);
+static inline uint32_t mb_validate(const mb_setting *setting, uint32_t address, mb_base *base)
+{
+    const uint8_t own = 0;
+    uint32_t kind = MB_BASE_NONE;
+    uint32_t answer = mb_raw_validate(address, mb_internal_read(setting->external, setting->external_length, &own),
+                                      setting->external_length, &kind, &base->offset);
+    base->kind = (uint8_t)kind;
+    return answer;
+}
 
-/* Writes the fresh record. Refused (6): its length isn't 44; nothing is written. */
-uint32_t mb_fresh(uint8_t *record, size_t record_length);
+/* Stores a record in a room of MB_RECORD_BYTES bytes. Refused: the room has
+ * another length (6); the record is out of range (7). */
+static inline uint32_t mb_store(const mb_record *record, uint8_t *room, size_t room_length, mb_refused *refused)
+{
+    uint8_t bytes[MB_RECORD_BYTES], own = 0;
+    mb_internal_pack(record, bytes);
+    return mb_internal_said(mb_raw_store(bytes, sizeof bytes, mb_internal_written(room, room_length, &own), room_length),
+                            refused);
+}
 
-/* Stores a record in the room. Refused: either length isn't 44 (6); the record is
- * out of range, or the bytes hold none (7). The room then stays as it was. */
-uint32_t mb_store(const uint8_t *record, size_t record_length,
-                  uint8_t *room, size_t room_length);
+/* Reads a stored record back. Refused: the stored form has another length (6);
+ * the record in it is out of range (7). */
+static inline uint32_t mb_load(const uint8_t *stored, size_t stored_length, mb_record *record, mb_refused *refused)
+{
+    uint8_t bytes[MB_RECORD_BYTES];
+    const uint8_t own = 0;
+    uint32_t answer = mb_raw_load(mb_internal_read(stored, stored_length, &own), stored_length, bytes, sizeof bytes);
+    if (answer == MB_ACCEPTED)
+        mb_internal_unpack(bytes, record);
+    return mb_internal_said(answer, refused);
+}
 
-/* Reads a stored form back. Refused: either length isn't 44 (6); the stored record
- * is out of range (7). The record then stays as it was; mb_fresh gives a fresh one. */
-uint32_t mb_load(const uint8_t *stored, size_t stored_length,
-                 uint8_t *record, size_t record_length);
+/* Runs a record with a budget of steps. Refused (1, 2, 3, 255, 4, 5): 0 steps. */
+static inline uint32_t mb_run(const mb_setting *setting, uint8_t *ram, size_t ram_length,
+                              mb_record *record, uint32_t budget, mb_stopped *stopped)
+{
+    const mb_program *program = &setting->program;
+    uint8_t bytes[MB_RECORD_BYTES], own[3] = {0, 0, 0};
+    uint32_t answer;
+    mb_internal_pack(record, bytes);
+    answer = mb_raw_run(mb_internal_read(program->page, program->page_length, &own[0]), program->page_length,
+                        mb_internal_written(ram, ram_length, &own[1]), ram_length,
+                        mb_internal_read(setting->external, setting->external_length, &own[2]),
+                        setting->external_length, bytes, sizeof bytes, budget,
+                        &stopped->kind, &stopped->value, &stopped->literal, &stopped->steps);
+    mb_internal_unpack(bytes, record);
+    return answer;
+}
 
-/* Runs the record with a budget of steps. kind is one of MB_STOP_*; value and
- * literal are 0 where the kind carries none. Refused (1 to 5): steps 0, record
- * and RAM as they were. */
-uint32_t mb_run(const uint8_t *page, size_t page_length,
-                uint8_t *ram, size_t ram_length,
-                const uint8_t *external, size_t external_length,
-                uint8_t *record, size_t record_length, uint32_t budget,
-                uint32_t *kind, uint32_t *value, uint32_t *literal,
-                uint32_t *steps);
+/* One step: a run with budget 1, as mb_raw_step is proved to be. */
+static inline uint32_t mb_step(const mb_setting *setting, uint8_t *ram, size_t ram_length,
+                               mb_record *record, mb_stopped *stopped)
+{
+    return mb_run(setting, ram, ram_length, record, 1, stopped);
+}
 
-/* One step: a run with budget 1. */
-uint32_t mb_step(const uint8_t *page, size_t page_length,
-                 uint8_t *ram, size_t ram_length,
-                 const uint8_t *external, size_t external_length,
-                 uint8_t *record, size_t record_length,
-                 uint32_t *kind, uint32_t *value, uint32_t *literal,
-                 uint32_t *steps);
+/* What a service asks of the host, by its low byte and its literal. */
+static inline mb_exit_parts mb_exit(uint32_t low, uint32_t literal)
+{
+    mb_exit_parts parts;
+    mb_raw_exit(low, literal, &parts.kind, &parts.number, &parts.immediate, &parts.address, &parts.words);
+    return parts;
+}
+
+/* What a stop asks of the host: MB_EXIT_NONE if it isn't at a service, since
+ * 256 is no low byte. */
+static inline mb_exit_parts mb_exit_of(const mb_stopped *stopped)
+{
+    bool at_service = stopped->kind == MB_STOP_SERVICE || stopped->kind == MB_STOP_SERVICE_BY_LITERAL;
+    return mb_exit(at_service ? stopped->value : 256u, stopped->literal);
+}
+
+/* ---- Words of a number; "unknown" if it has none. */
+
+static inline const char *mb_refusal_words(uint32_t number)
+{
+    switch (number) {
+    case MB_ACCEPTED: return "accepted";
+    case MB_REFUSED_PAGE_LENGTH: return "page is above 256 bytes or no multiple of 4";
+    case MB_REFUSED_RAM_LENGTH: return "RAM is not 32768 bytes";
+    case MB_REFUSED_EXTERNAL_LENGTH: return "external data is above 16777216 bytes or no multiple of 256";
+    case MB_REFUSED_UNFIT_RECORD: return "record is not fit";
+    case MB_REFUSED_UNFIT_PLACE: return "place is not fit";
+    case MB_REFUSED_FORM_LENGTH: return "stored form, or the room lent for it, is not 44 bytes";
+    case MB_REFUSED_FORM_RANGE: return "stored or given record is out of range";
+    case MB_REFUSED_NO_SUCH_BUNDLE: return "asked bundle is not in the page";
+    case MB_REFUSED_NO_RECORD: return "bytes hold no record";
+    default: return "unknown";
+    }
+}
+
+static inline const char *mb_fault_words(uint32_t number)
+{
+    switch (number) {
+    case MB_FAULT_NO_BASE: return "no base, or external base where RAM is needed";
+    case MB_FAULT_PAST_RAM: return "past RAM";
+    case MB_FAULT_OFF_EXTERNAL_PAGE: return "off the external page";
+    case MB_FAULT_PAST_STACK: return "stack access past 0x18000";
+    case MB_FAULT_LOW_STACK: return "SP below 0x10000";
+    case MB_FAULT_PAST_PAGE: return "literal load past the page";
+    default: return "unknown";
+    }
+}
+
+static inline const char *mb_stop_words(uint32_t kind)
+{
+    switch (kind) {
+    case MB_STOP_BUDGET: return "budget is spent";
+    case MB_STOP_SERVICE: return "service exit";
+    case MB_STOP_SERVICE_BY_LITERAL: return "service exit with its literal";
+    case MB_STOP_FAULT: return "fault";
+    case MB_STOP_UNLISTED: return "unlisted halfword";
+    case MB_STOP_REFUSED: return "refused";
+    default: return "unknown";
+    }
+}
+
+static inline const char *mb_exit_words(uint32_t kind)
+{
+    switch (kind) {
+    case MB_EXIT_NONE: return "no exit";
+    case MB_EXIT_RETURN: return "return";
+    case MB_EXIT_CALL: return "call";
+    case MB_EXIT_TAIL_CALL: return "tail call";
+    case MB_EXIT_SYSCALL: return "syscall";
+    case MB_EXIT_TAIL_SYSCALL: return "tail syscall";
+    case MB_EXIT_LONG_BRANCH: return "long branch";
+    case MB_EXIT_DIRECT_SYSCALL: return "direct syscall";
+    case MB_EXIT_BREAKPOINT: return "breakpoint";
+    case MB_EXIT_CALL_REGISTER: return "call by register";
+    case MB_EXIT_TAIL_CALL_REGISTER: return "tail call by register";
+    default: return "unknown";
+    }
+}
 
 #ifdef __cplusplus
 }

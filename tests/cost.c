@@ -13,8 +13,7 @@ static const uint16_t halfwords[] = {
 };
 
 int main(int count, char **words) {
-    static uint8_t page[2 * sizeof halfwords / sizeof *halfwords], ram[MB_RAM_BYTES], record[MB_RECORD_LENGTH], external[1];
-    uint32_t kind, value, literal, steps;
+    static uint8_t page[2 * sizeof halfwords / sizeof *halfwords], ram[MB_RAM_BYTES];
     for (size_t i = 0; i < sizeof halfwords / sizeof *halfwords; i++) {
         page[2 * i] = (uint8_t)(halfwords[i] & 0xFF);
         page[2 * i + 1] = (uint8_t)(halfwords[i] >> 8);
@@ -26,7 +25,9 @@ int main(int count, char **words) {
         return fwrite(page, 1, sizeof page, stdout) == sizeof page ? 0 : 1;
     }
     uint32_t budget = (uint32_t)strtoul(words[1], NULL, 10);
-    mb_fresh(record, sizeof record);
-    uint32_t code = mb_run(page, sizeof page, ram, sizeof ram, external, 0, record, sizeof record, budget, &kind, &value, &literal, &steps);
-    return code == 0 && kind == MB_STOP_BUDGET && steps == budget ? 0 : 1;
+    mb_setting setting = mb_setting_of(mb_program_of(page, sizeof page), NULL, 0);
+    mb_record record = mb_fresh();
+    mb_stopped stopped = mb_nothing_run();
+    uint32_t code = mb_run(&setting, ram, sizeof ram, &record, budget, &stopped);
+    return code == MB_ACCEPTED && stopped.kind == MB_STOP_BUDGET && stopped.steps == budget ? 0 : 1;
 }

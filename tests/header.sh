@@ -1,33 +1,38 @@
 #!/bin/sh
-# Nothing checks a declaration in C or Rust against the Rattle source when it is linked, so this compares them type by type:
-# header.sh [SOURCE [HEADER [DECLARATIONS]]]
+# Nothing checks a declaration in C or Rust against the Rattle source when it is linked, so this compares them: types, widths
+# and order, with names, since parameters of one type could change places unseen. Then it sees that a wrong type, a wrong order
+# and a wrong width are each found, in the header and in the Rust declarations.
 set -eu
 root=$(dirname "$0")/..
-source=${1:-$root/crates/host/src/lib.rt}
-header=${2:-$root/include/marshbodkin.h}
-declarations=${3:-$root/rust/host/src/calls.rs}
+source=$root/crates/marshbodkin/src/lib.rt
+header=$root/include/marshbodkin.h
+declarations=$root/rust/sys/src/lib.rs
 scratch=$(mktemp -d)
 trap 'rm -rf "$scratch"' EXIT
 
-# The functions after OPENING in a Rattle or Rust file, as C prototypes without parameter names. An unknown type stays as it is.
+# The functions after OPENING in a Rattle or Rust file, as C prototypes. An unknown type stays as it is. The bytes of a record
+# are called so in the Rattle source, where "record" is a word of the language.
 as_c() {
     sed 's,//.*,,' "$2" | awk -v opening="$1" '
         BEGIN {
-            c["u32"] = "uint32_t"; c["&mut u32"] = c["*mut u32"] = "uint32_t *"; c["usize"] = "size_t"
-            c["&[u8]"] = "const uint8_t *, size_t"; c["&mut [u8]"] = "uint8_t *, size_t"
-            c["*const u8"] = "const uint8_t *"; c["*mut u8"] = "uint8_t *"
+            c["u32"] = "uint32_t "; c["&mut u32"] = c["*mut u32"] = "uint32_t *"; c["usize"] = "size_t "
+            c["&[u8]"] = c["*const u8"] = "const uint8_t *"; c["&mut [u8]"] = c["*mut u8"] = "uint8_t *"
         }
-        function mapped(type) { return (type in c) ? c[type] : type }
-        function prototype(text,    name, result, parameters, parameter, number, i, list) {
-            name = text; sub(/\(.*/, "", name)
+        function parameter(text,    name, type) {
+            name = text; sub(/ *:.*/, "", name); sub(/^ */, "", name)
+            type = text; sub(/^[^:]*: */, "", type); sub(/ *$/, "", type)
+            if (!(type in c)) return type " " name
+            if (name == "bytes") name = "record"
+            return c[type] name (type ~ /\[u8\]/ ? ", size_t " name "_length" : "")
+        }
+        function prototype(text,    name, result, parameters, number, i, list) {
+            name = text; sub(/ ?\(.*/, "", name)
             result = text; if (!sub(/.*\) *-> */, "", result)) result = "void"
+            if (result == "u32") result = "uint32_t"
             sub(/^[^(]*\(/, "", text); sub(/,? *\).*/, "", text)
             number = split(text, parameters, ",")
-            for (i = 1; i <= number; i++) {
-                parameter = parameters[i]; sub(/^[^:]*: */, "", parameter); sub(/ *$/, "", parameter)
-                list = list (i > 1 ? ", " : "") mapped(parameter)
-            }
-            return mapped(result) " " name "(" list ")"
+            for (i = 1; i <= number; i++) list = list (i > 1 ? ", " : "") parameter(parameters[i])
+            return result " mb_raw_" name "(" list ")"
         }
         { text = text " " $0 }
         END {
@@ -40,10 +45,11 @@ as_c() {
         }' | sort
 }
 
-# The prototypes of a C header, without comments and parameter names.
+# The prototypes of the header, which stand before its first inline function.
 prototypes() {
     awk '
         /^#/ { next }
+        /^static inline/ { exit }
         { text = text " " $0 }
         END {
             while ((at = index(text, "/*")) > 0) {
@@ -51,21 +57,43 @@ prototypes() {
                 text = substr(text, 1, at - 1) " " substr(rest, index(rest, "*/") + 2)
             }
             gsub(/[ \t]+/, " ", text)
-            while (match(text, /[a-z0-9_]+ \**mb_[a-z0-9_]+\([^)]*\);/)) {
+            while (match(text, /[a-z0-9_]+ \**mb_raw_[a-z0-9_]+\([^)]*\);/)) {
                 one = substr(text, RSTART, RLENGTH - 1)
                 text = substr(text, RSTART + RLENGTH)
-                gsub(/ ?[a-z0-9_]+,/, ",", one); sub(/ ?[a-z0-9_]+\)/, ")", one)
+                sub(/\(void\)/, "()", one)
                 print one
             }
         }' "$1" | sort
 }
 
-as_c '#[no_mangle] pub extern "C" fn ' "$source" >"$scratch/exported"
-as_c ' fn mb_' "$declarations" | sed 's/ / mb_/' >"$scratch/declared"
-prototypes "$header" >"$scratch/prototypes"
+# A header is held to the source, and so are Rust declarations. What differs is printed.
+held_header() { prototypes "$1" | diff "$scratch/exported" -; }
+held_declarations() { as_c 'pub fn mb_raw_' "$1" | diff "$scratch/exported" -; }
+
+# The file with one edit, which must change it, is found wrong: found CHECK FILE EDIT
+found() {
+    sed "$3" "$2" >"$scratch/edited"
+    if cmp -s "$2" "$scratch/edited" || "$1" "$scratch/edited" >/dev/null; then
+        echo "header.sh: not found in $2: $3" >&2
+        exit 1
+    fi
+}
+
+as_c '#[no_mangle] pub extern "C" fn mb_raw_' "$source" >"$scratch/exported"
 if [ ! -s "$scratch/exported" ]; then
     echo "header.sh: no exported function in $source" >&2
     exit 1
 fi
-diff "$scratch/exported" "$scratch/prototypes"
-diff "$scratch/exported" "$scratch/declared"
+held_header "$header"
+held_declarations "$declarations"
+found held_header "$header" '/mb_raw_count/s/const uint8_t/uint8_t/'
+found held_header "$header" 's/uint32_t \*kind, uint32_t \*largest/uint32_t *largest, uint32_t *kind/'
+found held_header "$header" 's/uint8_t \*ram, size_t ram_length/uint8_t *record, size_t record_length/; s/uint8_t \*record, size_t record_length, uint32_t budget/uint8_t *ram, size_t ram_length, uint32_t budget/'
+found held_header "$header" 's/uint32_t k,/uint64_t k,/'
+found held_header "$header" 's/^uint32_t mb_raw_fresh/uint8_t mb_raw_fresh/'
+found held_header "$header" '/mb_raw_version/d'
+found held_declarations "$declarations" 's/page: \*const u8/page: *mut u8/'
+found held_declarations "$declarations" 's/value: \*mut u32/values: *mut u32/; s/literal: \*mut u32/value: *mut u32/; s/values: \*mut u32/literal: *mut u32/'
+found held_declarations "$declarations" 's/budget: u32/budget: u64/'
+found held_declarations "$declarations" 's/page_length: usize/page_length: u32/'
+echo "header.sh: $(wc -l <"$scratch/exported") declarations held to the source in C and in Rust; ten wrong ones found"

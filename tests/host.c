@@ -1,93 +1,70 @@
-/* The library's calls from C, against values worked out by hand from 01. */
+/* The header's calls, against values worked out by hand from 01; the proved calls where bytes or lengths matter that
+ * the header's calls cannot hand over. */
+#include "check.h"
 #include "marshbodkin.h"
+#include "records.h"
 
-#include <stdio.h>
 #include <stdlib.h>
 #include <string.h>
-
-/* ---- checks */
-
-static unsigned passed, failed;
-
-static void check(int line, const char *what, uint32_t got, uint32_t expected)
-{
-    if (got == expected) {
-        passed++;
-        return;
-    }
-    failed++;
-    printf("host.c:%d: %s: got 0x%lX, expected 0x%lX\n", line, what,
-           (unsigned long)got, (unsigned long)expected);
-}
-
-#define CHECK(got, expected) check(__LINE__, #got, (got), (expected))
 
 /* What a call didn't write shows. */
 #define STALE 0xAAAAAAAAu
 
-/* ---- what is lent: one struct of bytes, so that a call's traces are found by comparing it whole */
+/* ---- what is lent: bytes in one struct and a record, so that a call's traces are found by comparing all of it */
 
 struct areas {
     uint8_t page[MB_PAGE_MOST + 4];
     uint8_t ram[MB_RAM_BYTES + 1];
     uint8_t external[512];
-    uint8_t record[MB_RECORD_LENGTH + 1];
-    uint8_t room[MB_RECORD_LENGTH + 1];
+    uint8_t room[MB_RECORD_BYTES + 1];
 };
 
 static struct areas lent, before;
-static size_t page_length, ram_length, external_length, record_length, room_length;
+static mb_record record, record_before;
+static size_t page_length, ram_length, external_length, room_length;
 
-static void keep(void) { before = lent; }
-
-static uint32_t changed(void) { return memcmp(&lent, &before, sizeof lent) != 0; }
-
-static void put(uint8_t *bytes, size_t at, size_t width, uint32_t value)
+static void keep(void)
 {
-    for (size_t i = 0; i < width; i++)
-        bytes[at + i] = (uint8_t)(value >> (8 * i));
+    before = lent;
+    record_before = record;
 }
 
-static uint32_t get(const uint8_t *bytes, size_t at, size_t width)
+static uint32_t changed(void)
 {
-    uint32_t value = 0;
-    for (size_t i = 0; i < width; i++)
-        value |= (uint32_t)bytes[at + i] << (8 * i);
-    return value;
+    return memcmp(&lent, &before, sizeof lent) != 0 || !same_record(&record, &record_before);
 }
 
 static void page_of(const uint16_t *halfwords, size_t number)
 {
     page_length = 2 * number;
-    for (size_t i = 0; i < number; i++)
-        put(lent.page, 2 * i, 2, halfwords[i]);
+    put_halfwords(lent.page, halfwords, number);
 }
 
 #define HALFWORDS(...) ((const uint16_t[]){__VA_ARGS__})
 #define PAGE(...) page_of(HALFWORDS(__VA_ARGS__), sizeof HALFWORDS(__VA_ARGS__) / sizeof(uint16_t))
 
-/* The parts of the lent record. */
-static void set_register(size_t k, uint32_t x) { put(lent.record, MB_AT_REGISTERS + 4 * k, 4, x); }
-static void set_sp(uint32_t x) { put(lent.record, MB_AT_SP, 4, x); }
-static void set_place(uint32_t x) { put(lent.record, MB_AT_PLACE, 2, x); }
-static void set_flags(uint32_t x) { put(lent.record, MB_AT_FLAGS, 1, x); }
+static mb_program program(void) { return mb_program_of(lent.page, page_length); }
+static mb_setting setting(void) { return mb_setting_of(program(), lent.external, external_length); }
 
-static void set_base(uint32_t kind, uint32_t offset)
+static void set_base(uint8_t kind, uint32_t offset)
 {
-    put(lent.record, MB_AT_BASE_KIND, 1, kind);
-    put(lent.record, MB_AT_OFFSET, 4, offset);
+    record.base.kind = kind;
+    record.base.offset = offset;
 }
 
-static uint32_t register_now(size_t k) { return get(lent.record, MB_AT_REGISTERS + 4 * k, 4); }
-static uint32_t place_now(void) { return get(lent.record, MB_AT_PLACE, 2); }
-static uint32_t flags_now(void) { return get(lent.record, MB_AT_FLAGS, 1); }
-static uint32_t base_now(void) { return get(lent.record, MB_AT_BASE_KIND, 1); }
+static uint32_t ram_word(size_t at)
+{
+    const uint8_t *bytes = lent.ram + at;
+    return bytes[0] + 256u * bytes[1] + 65536u * bytes[2] + 16777216u * bytes[3];
+}
 
 /* 01's fresh record, by hand. */
-static void put_fresh(uint8_t *record)
+static mb_record fresh_by_hand(void)
 {
-    memset(record, 0, MB_RECORD_LENGTH);
-    put(record, MB_AT_SP, 4, 0x18000);
+    mb_record fresh;
+    memset(&fresh, 0, sizeof fresh);
+    fresh.sp = 0x18000;
+    return fresh;
 }
 
 /* An accepted beginning: 01's printed page, a filled RAM, no external data, the fresh record. */
@@ -101,56 +78,55 @@ static void begin(void)
     PAGE(0x2800, 0xD001, 0x2001, 0xDF00, 0x2000, 0xDF00, 0x2000, 0xBF00);
     ram_length = MB_RAM_BYTES;
     external_length = 0;
-    record_length = MB_RECORD_LENGTH;
-    room_length = MB_RECORD_LENGTH;
-    put_fresh(lent.record);
+    room_length = MB_RECORD_BYTES;
+    record = fresh_by_hand();
 }
 
 /* ---- the calls with what is lent */
 
 struct answer {
-    uint32_t code, kind, value, literal, steps;
+    uint32_t code;
+    mb_stopped stopped;
 };
+
+static const mb_stopped stale_stop = {STALE, STALE, STALE, STALE};
 
 static struct answer run(uint32_t budget)
 {
-    struct answer a = {STALE, STALE, STALE, STALE, STALE};
-    a.code = mb_run(lent.page, page_length, lent.ram, ram_length, lent.external, external_length,
-                    lent.record, record_length, budget, &a.kind, &a.value, &a.literal, &a.steps);
+    struct answer a = {STALE, stale_stop};
+    mb_setting on = setting();
+    a.code = mb_run(&on, lent.ram, ram_length, &record, budget, &a.stopped);
     return a;
 }
 
 static struct answer step(void)
 {
-    struct answer a = {STALE, STALE, STALE, STALE, STALE};
-    a.code = mb_step(lent.page, page_length, lent.ram, ram_length, lent.external, external_length,
-                     lent.record, record_length, &a.kind, &a.value, &a.literal, &a.steps);
+    struct answer a = {STALE, stale_stop};
+    mb_setting on = setting();
+    a.code = mb_step(&on, lent.ram, ram_length, &record, &a.stopped);
     return a;
 }
 
-static uint32_t store(void) { return mb_store(lent.record, record_length, lent.room, room_length); }
-static uint32_t load(void) { return mb_load(lent.room, room_length, lent.record, record_length); }
-
-static void check_answer(int line, struct answer a, struct answer expected)
+static void check_answer(int line, struct answer a, uint32_t code, mb_stopped expected)
 {
-    check(line, "code", a.code, expected.code);
-    check(line, "kind", a.kind, expected.kind);
-    check(line, "value", a.value, expected.value);
-    check(line, "literal", a.literal, expected.literal);
-    check(line, "steps", a.steps, expected.steps);
+    check(line, "code", a.code, code);
+    check(line, "kind", a.stopped.kind, expected.kind);
+    check(line, "value", a.stopped.value, expected.value);
+    check(line, "literal", a.stopped.literal, expected.literal);
+    check(line, "steps", a.stopped.steps, expected.steps);
 }
 
 #define STOPS(got, kind, value, literal, steps) \
-    check_answer(__LINE__, (got), (struct answer){MB_ACCEPTED, (kind), (value), (literal), (steps)})
+    check_answer(__LINE__, (got), MB_ACCEPTED, (mb_stopped){(kind), (value), (literal), (steps)})
 
 /* A step and a run are refused, and leave everything as it was. */
 static void check_refused(int line, uint32_t code)
 {
-    struct answer expected = {code, MB_STOP_REFUSED, code, 0, 0};
+    mb_stopped expected = {MB_STOP_REFUSED, code, 0, 0};
     keep();
-    check_answer(line, run(10), expected);
+    check_answer(line, run(10), code, expected);
     check(line, "changed by the run", changed(), 0);
-    check_answer(line, step(), expected);
+    check_answer(line, step(), code, expected);
     check(line, "changed by the step", changed(), 0);
 }
 
@@ -159,21 +135,63 @@ static void check_refused(int line, uint32_t code)
 /* A step and a run fault at their first instruction, and leave everything as it was. */
 static void check_fault(int line, uint32_t number)
 {
-    struct answer expected = {MB_ACCEPTED, MB_STOP_FAULT, number, 0, 0};
+    mb_stopped expected = {MB_STOP_FAULT, number, 0, 0};
     keep();
-    check_answer(line, run(10), expected);
-    check_answer(line, step(), expected);
+    check_answer(line, run(10), MB_ACCEPTED, expected);
+    check_answer(line, step(), MB_ACCEPTED, expected);
     check(line, "changed", changed(), 0);
 }
 
 #define FAULTS(number) check_fault(__LINE__, (number))
+
+/* A store, and a load, with what each says in an mb_refused; the same without one. */
+static void check_store(int line, uint32_t code)
+{
+    mb_refused refused = {STALE};
+    check(line, "store", mb_store(&record, lent.room, room_length, &refused), code);
+    check(line, "what the store says", refused.number, code);
+    check(line, "store, saying nothing", mb_store(&record, lent.room, room_length, NULL), code);
+}
+
+static void check_load(int line, uint32_t code)
+{
+    mb_refused refused = {STALE};
+    check(line, "load", mb_load(lent.room, room_length, &record, &refused), code);
+    check(line, "what the load says", refused.number, code);
+    check(line, "load, saying nothing", mb_load(lent.room, room_length, &record, NULL), code);
+}
+
+#define STORES(code) check_store(__LINE__, (code))
+#define LOADS(code) check_load(__LINE__, (code))
+
+/* ---- initialisers and version */
+
+static void initialisers(void)
+{
+    mb_record fresh = mb_fresh(), by_hand = fresh_by_hand();
+    mb_stopped nothing = mb_nothing_run();
+    mb_setting on;
+    begin();
+    on = setting();
+    CHECK(mb_version(), MB_VERSION);
+    CHECK(same_record(&fresh, &by_hand), true);
+    CHECK(nothing.kind, MB_STOP_BUDGET);
+    CHECK(nothing.value, 0);
+    CHECK(nothing.literal, 0);
+    CHECK(nothing.steps, 0);
+    CHECK(on.program.page == lent.page, true);
+    CHECK(on.program.page_length == page_length, true);
+    CHECK(on.external == lent.external, true);
+    CHECK(on.external_length == external_length, true);
+}
 
 /* ---- count and reader */
 
 static void check_count(int line, uint32_t expected)
 {
     uint32_t count = STALE;
-    check(line, "code", mb_count(lent.page, page_length, &count), MB_ACCEPTED);
+    mb_program of = program();
+    check(line, "code", mb_count(&of, &count), MB_ACCEPTED);
     check(line, "count", count, expected);
 }
 
@@ -205,8 +223,8 @@ static void counts(void)
 /* 64 bundles of nop and return: the largest page has the largest count. */
 static void count_of_a_full_page(void)
 {
-    for (size_t at = 0; at < MB_PAGE_MOST; at += 4)
-        put(lent.page, at, 4, 0xDF00BF00);
+    for (size_t place = 0; place < MB_PAGE_MOST / 2; place++)
+        put_halfword(lent.page, place, place % 2 == 0 ? 0xBF00 : 0xDF00);
     page_length = MB_PAGE_MOST;
     check_count(__LINE__, 64);
 }
@@ -218,7 +236,8 @@ static void count_refused(void)
     keep();
     for (size_t i = 0; i < sizeof lengths / sizeof lengths[0]; i++) {
         uint32_t count = STALE;
-        CHECK(mb_count(lent.page, lengths[i], &count), MB_PAGE_LENGTH);
+        mb_program of = mb_program_of(lent.page, lengths[i]);
+        CHECK(mb_count(&of, &count), MB_REFUSED_PAGE_LENGTH);
         CHECK(count, 0);
     }
     CHECK(changed(), 0);
@@ -226,10 +245,11 @@ static void count_refused(void)
 
 static void check_bundle(int line, uint32_t k, uint32_t code, uint32_t kind, uint32_t largest)
 {
-    uint32_t got_kind = STALE, got_largest = STALE;
-    check(line, "code", mb_read_bundle(lent.page, page_length, k, &got_kind, &got_largest), code);
-    check(line, "kind", got_kind, kind);
-    check(line, "largest", got_largest, largest);
+    mb_reading reading = {STALE, STALE};
+    mb_program of = program();
+    check(line, "code", mb_read_bundle(&of, k, &reading), code);
+    check(line, "kind", reading.kind, kind);
+    check(line, "largest", reading.largest, largest);
 }
 
 #define BUNDLE(k, code, kind, largest) check_bundle(__LINE__, (k), (code), (kind), (largest))
@@ -242,30 +262,32 @@ static void bundles(void)
     BUNDLE(1, MB_ACCEPTED, MB_SUCCESSOR_NOTHING, 0);
     BUNDLE(2, MB_ACCEPTED, MB_SUCCESSOR_NOTHING, 0);
     BUNDLE(3, MB_ACCEPTED, MB_SUCCESSOR_LARGEST, 4);
-    BUNDLE(4, MB_NO_SUCH_BUNDLE, MB_SUCCESSOR_BAD, 0);
-    BUNDLE(0xFFFFFFFF, MB_NO_SUCH_BUNDLE, MB_SUCCESSOR_BAD, 0);
+    BUNDLE(4, MB_REFUSED_NO_SUCH_BUNDLE, MB_SUCCESSOR_BAD, 0);
+    BUNDLE(0xFFFFFFFF, MB_REFUSED_NO_SUCH_BUNDLE, MB_SUCCESSOR_BAD, 0);
     page_length = 15;
-    BUNDLE(0, MB_PAGE_LENGTH, MB_SUCCESSOR_BAD, 0);
-    BUNDLE(4, MB_PAGE_LENGTH, MB_SUCCESSOR_BAD, 0); /* 1 before 8 */
+    BUNDLE(0, MB_REFUSED_PAGE_LENGTH, MB_SUCCESSOR_BAD, 0);
+    BUNDLE(4, MB_REFUSED_PAGE_LENGTH, MB_SUCCESSOR_BAD, 0); /* 1 before 8 */
     CHECK(changed(), 0);
     PAGE(0xF8C8, 0x0000, 0x2001, 0xDF00);
     BUNDLE(0, MB_ACCEPTED, MB_SUCCESSOR_BAD, 0);
     page_length = 0;
-    BUNDLE(0, MB_NO_SUCH_BUNDLE, MB_SUCCESSOR_BAD, 0);
+    BUNDLE(0, MB_REFUSED_NO_SUCH_BUNDLE, MB_SUCCESSOR_BAD, 0);
 }
 
 /* ---- base validation */
 
-static void check_base(int line, uint32_t v, size_t length, uint32_t code, uint32_t kind, uint32_t offset)
+static void check_base(int line, mb_setting on, uint32_t address, uint32_t code, uint32_t kind, uint32_t offset)
 {
-    uint32_t got_kind = STALE, got_offset = STALE;
-    check(line, "code", mb_validate(v, lent.external, length, &got_kind, &got_offset), code);
-    check(line, "kind", got_kind, kind);
-    check(line, "offset", got_offset, offset);
+    mb_base base = {0xAA, STALE};
+    check(line, "code", mb_validate(&on, address, &base), code);
+    check(line, "kind", base.kind, kind);
+    check(line, "offset", base.offset, offset);
 }
 
-#define BASE(v, length, kind, offset) check_base(__LINE__, (v), (length), MB_ACCEPTED, (kind), (offset))
-#define NO_BASE(v, length) check_base(__LINE__, (v), (length), MB_EXTERNAL_LENGTH, MB_BASE_NONE, 0)
+#define BASE_OF(bytes, length, address, code, kind, offset) \
+    check_base(__LINE__, mb_setting_of(program(), (bytes), (length)), (address), (code), (kind), (offset))
+#define BASE(address, length, kind, offset) BASE_OF(lent.external, length, address, MB_ACCEPTED, kind, offset)
+#define NO_BASE(address, length) BASE_OF(lent.external, length, address, MB_REFUSED_EXTERNAL_LENGTH, MB_BASE_NONE, 0)
 
 static void bases(void)
 {
@@ -287,6 +309,8 @@ static void bases(void)
     NO_BASE(0x10000, 1);
     NO_BASE(0x10000, 255);
     NO_BASE(0x80000000, 257);
+    page_length = 3; /* which is not looked at */
+    BASE(0x10000, 0, MB_BASE_RAM, 0);
     CHECK(changed(), 0);
 }
 
@@ -294,38 +318,22 @@ static void bases(void)
 static void base_at_the_end(void)
 {
     uint8_t *most = calloc(MB_EXTERNAL_MOST + 256, 1);
-    uint32_t kind = STALE, offset = STALE;
-    CHECK(most != NULL, 1);
+    CHECK(most != NULL, true);
     if (most == NULL)
         return;
-    CHECK(mb_validate(0x80FFFFFF, most, MB_EXTERNAL_MOST, &kind, &offset), MB_ACCEPTED);
-    CHECK(kind, MB_BASE_EXTERNAL);
-    CHECK(offset, 0xFFFFFF);
-    CHECK(mb_validate(0x80FFFFFF, most, MB_EXTERNAL_MOST + 256, &kind, &offset), MB_EXTERNAL_LENGTH);
-    CHECK(kind, MB_BASE_NONE);
-    CHECK(offset, 0);
+    BASE_OF(most, MB_EXTERNAL_MOST, 0x80FFFFFF, MB_ACCEPTED, MB_BASE_EXTERNAL, 0xFFFFFF);
+    BASE_OF(most, MB_EXTERNAL_MOST + 256, 0x80FFFFFF, MB_REFUSED_EXTERNAL_LENGTH, MB_BASE_NONE, 0);
     free(most);
 }
 
-/* ---- fresh, store, load */
+/* ---- store and load */
 
-static void fresh(void)
-{
-    begin();
-    keep();
-    memset(lent.record, 0x5A, sizeof lent.record);
-    CHECK(mb_fresh(lent.record, MB_RECORD_LENGTH), MB_ACCEPTED);
-    CHECK(changed(), 0); /* the record by hand, and nothing past it */
-    set_register(0, 1);
-    keep();
-    CHECK(mb_fresh(lent.record, 0), MB_FORM_LENGTH);
-    CHECK(mb_fresh(lent.record, 43), MB_FORM_LENGTH);
-    CHECK(mb_fresh(lent.record, 45), MB_FORM_LENGTH);
-    CHECK(changed(), 0);
-}
-
-/* Each part at an end of its range: the bytes, in 01's order. */
-static const uint8_t full[MB_RECORD_LENGTH] = {
+/* Each part at an end of its range, and its bytes in 01's order. */
+static const mb_record full = {
+    {0x04030201, 0x14131211, 0x24232221, 0x34333231, 0x44434241, 0x54535251, 0x64636261, 0xFFFFFFFF},
+    0x10000, {MB_BASE_RAM, 0xFFFFF}, 127, true, true, true, true,
+};
+static const uint8_t full_bytes[MB_RECORD_BYTES] = {
     0x01, 0x02, 0x03, 0x04, 0x11, 0x12, 0x13, 0x14, 0x21, 0x22, 0x23, 0x24, 0x31, 0x32, 0x33, 0x34,
     0x41, 0x42, 0x43, 0x44, 0x51, 0x52, 0x53, 0x54, 0x61, 0x62, 0x63, 0x64, 0xFF, 0xFF, 0xFF, 0xFF,
     0x00, 0x00, 0x01, 0x00, /* SP 0x10000 */
@@ -337,73 +345,76 @@ static const uint8_t full[MB_RECORD_LENGTH] = {
 static void stored_and_read_back(void)
 {
     begin();
-    memcpy(lent.record, full, sizeof full);
-    CHECK(store(), MB_ACCEPTED);
-    CHECK(memcmp(lent.room, full, sizeof full) == 0, 1);
-    CHECK(lent.room[MB_RECORD_LENGTH], 0x5A);
-    memset(lent.record, 0, MB_RECORD_LENGTH);
-    CHECK(load(), MB_ACCEPTED);
-    CHECK(memcmp(lent.record, full, sizeof full) == 0, 1);
+    record = full;
+    STORES(MB_ACCEPTED);
+    CHECK(memcmp(lent.room, full_bytes, sizeof full_bytes) == 0, true);
+    CHECK(lent.room[MB_RECORD_BYTES], 0x5A);
+    record = fresh_by_hand();
+    LOADS(MB_ACCEPTED);
+    CHECK(same_record(&record, &full), true);
     set_base(MB_BASE_EXTERNAL, 0xFFFFFF); /* whatever the data's length */
-    CHECK(store(), MB_ACCEPTED);
-    CHECK(load(), MB_ACCEPTED);
-    CHECK(memcmp(lent.record, lent.room, MB_RECORD_LENGTH) == 0, 1);
+    record_before = record;
+    STORES(MB_ACCEPTED);
+    record = fresh_by_hand();
+    LOADS(MB_ACCEPTED);
+    CHECK(same_record(&record, &record_before), true);
 }
 
 /* One change each that takes a record out of range; it is a record still. */
 static void out_of_range(int which)
 {
     switch (which) {
-    case 0: set_sp(0x18004); break;
-    case 1: set_sp(0xFFFC); break;
-    case 2: set_sp(0x17FFE); break;
+    case 0: record.sp = 0x18004; break;
+    case 1: record.sp = 0xFFFC; break;
+    case 2: record.sp = 0x17FFE; break;
     case 3: set_base(MB_BASE_RAM, 0x100000); break;
     case 4: set_base(MB_BASE_EXTERNAL, 0x1000000); break;
-    default: set_place(128);
+    default: record.place = 128;
     }
 }
 
-/* One change each after which the bytes hold no record. */
+/* One change each after which it is no record. */
 static void no_record(int which)
 {
     switch (which) {
     case 0: set_base(3, 0); break;
     case 1: set_base(255, 0); break;
-    case 2: set_base(MB_BASE_NONE, 1); break;
-    default: set_flags(16);
+    default: set_base(MB_BASE_NONE, 1);
     }
 }
 
-/* Reading back is refused, and nothing is written. */
-static void check_load_refused(int line, uint32_t code)
-{
-    set_register(0, 1); /* not the fresh record */
-    keep();
-    check(line, "load", load(), code);
-    check(line, "changed by load", changed(), 0);
-}
-
-/* The lent record isn't stored; its bytes in the room aren't read back either. */
-static void check_out_of_range(int line)
+static void check_not_stored(int line)
 {
     keep();
-    check(line, "store", store(), MB_FORM_RANGE);
-    check(line, "changed by store", changed(), 0);
-    memcpy(lent.room, lent.record, MB_RECORD_LENGTH);
-    check_load_refused(line, MB_FORM_RANGE);
+    check_store(line, MB_REFUSED_FORM_RANGE);
+    check(line, "changed by the store", changed(), 0);
 }
 
-static void form_range(void)
+static void not_stored(void)
 {
     for (int which = 0; which <= 5; which++) {
         begin();
         out_of_range(which);
-        check_out_of_range(__LINE__);
+        check_not_stored(__LINE__);
     }
-    for (int which = 0; which <= 3; which++) {
+    for (int which = 0; which <= 2; which++) {
         begin();
         no_record(which);
-        check_out_of_range(__LINE__);
+        check_not_stored(__LINE__);
+    }
+}
+
+/* The full record's bytes with one byte changed, which then isn't in range. */
+static void not_read_back(void)
+{
+    const uint8_t changes[][2] = {{32, 1}, {34, 2}, {34, 0}, {36, 3}, {36, 255}, {36, 0}, {39, 0x10}, {41, 128}, {42, 1}, {43, 16}};
+    for (size_t i = 0; i < sizeof changes / sizeof changes[0]; i++) {
+        begin();
+        memcpy(lent.room, full_bytes, sizeof full_bytes);
+        lent.room[changes[i][0]] = changes[i][1];
+        keep();
+        LOADS(MB_REFUSED_FORM_RANGE);
+        CHECK(changed(), 0);
     }
 }
 
@@ -414,34 +425,79 @@ static void form_length(void)
         begin();
         room_length = lengths[i];
         keep();
-        CHECK(store(), MB_FORM_LENGTH);
+        STORES(MB_REFUSED_FORM_LENGTH);
+        LOADS(MB_REFUSED_FORM_LENGTH);
         CHECK(changed(), 0);
-        set_sp(0x18004); /* 6 before 7 */
+        record.sp = 0x18004; /* 6 before 7 */
+        no_record(0);
         keep();
-        CHECK(store(), MB_FORM_LENGTH);
-        no_record(0); /* 6 before 7 here too */
-        keep();
-        CHECK(store(), MB_FORM_LENGTH);
+        STORES(MB_REFUSED_FORM_LENGTH);
         CHECK(changed(), 0);
-        check_load_refused(__LINE__, MB_FORM_LENGTH);
     }
 }
 
-static void record_of_another_length(void)
+/* ---- the proved calls: a record of another length, flags above 15 */
+
+/* A proved run or step was refused; what it answers. */
+static uint32_t raw_refused(uint32_t code, mb_stopped stopped)
 {
+    check_answer(__LINE__, (struct answer){code, stopped}, code, (mb_stopped){MB_STOP_REFUSED, code, 0, 0});
+    return code;
+}
+
+static uint32_t raw_run(uint8_t *bytes, size_t length)
+{
+    mb_stopped s = stale_stop;
+    uint32_t code = mb_raw_run(lent.page, page_length, lent.ram, ram_length, lent.external, external_length,
+                               bytes, length, 10, &s.kind, &s.value, &s.literal, &s.steps);
+    return raw_refused(code, s);
+}
+
+static uint32_t raw_step(uint8_t *bytes, size_t length)
+{
+    mb_stopped s = stale_stop;
+    uint32_t code = mb_raw_step(lent.page, page_length, lent.ram, ram_length, lent.external, external_length,
+                                bytes, length, &s.kind, &s.value, &s.literal, &s.steps);
+    return raw_refused(code, s);
+}
+
+static void raw_lengths(void)
+{
+    const size_t lengths[] = {0, 43, 45};
+    uint8_t bytes[MB_RECORD_BYTES + 1], kept[sizeof bytes];
     begin();
-    CHECK(store(), MB_ACCEPTED);
-    set_register(0, 1);
+    memset(bytes, 0x5A, sizeof bytes);
+    memcpy(bytes, full_bytes, sizeof full_bytes);
+    memcpy(kept, bytes, sizeof bytes);
     keep();
-    for (record_length = 43; record_length <= 45; record_length += 2) {
-        CHECK(store(), MB_FORM_LENGTH);
-        CHECK(load(), MB_FORM_LENGTH);
-        room_length = 43; /* both of another length */
-        CHECK(store(), MB_FORM_LENGTH);
-        CHECK(load(), MB_FORM_LENGTH);
-        room_length = MB_RECORD_LENGTH;
+    for (size_t i = 0; i < sizeof lengths / sizeof lengths[0]; i++) {
+        CHECK(mb_raw_fresh(bytes, lengths[i]), MB_REFUSED_FORM_LENGTH);
+        CHECK(mb_raw_store(bytes, lengths[i], lent.room, MB_RECORD_BYTES), MB_REFUSED_FORM_LENGTH);
+        CHECK(mb_raw_store(bytes, lengths[i], lent.room, 43), MB_REFUSED_FORM_LENGTH);
+        CHECK(mb_raw_load(full_bytes, MB_RECORD_BYTES, bytes, lengths[i]), MB_REFUSED_FORM_LENGTH);
+        CHECK(mb_raw_load(full_bytes, 43, bytes, lengths[i]), MB_REFUSED_FORM_LENGTH);
+        CHECK(raw_run(bytes, lengths[i]), MB_REFUSED_NO_RECORD);
+        CHECK(raw_step(bytes, lengths[i]), MB_REFUSED_NO_RECORD);
     }
     CHECK(changed(), 0);
+    CHECK(memcmp(bytes, kept, sizeof bytes) == 0, true);
+}
+
+static void raw_flags(void)
+{
+    uint8_t bytes[MB_RECORD_BYTES], kept[sizeof bytes];
+    begin();
+    CHECK(mb_raw_fresh(bytes, sizeof bytes), MB_ACCEPTED);
+    bytes[43] = 16;
+    memcpy(kept, bytes, sizeof bytes);
+    keep();
+    CHECK(mb_raw_store(bytes, sizeof bytes, lent.room, MB_RECORD_BYTES), MB_REFUSED_FORM_RANGE);
+    CHECK(raw_run(bytes, sizeof bytes), MB_REFUSED_NO_RECORD);
+    CHECK(raw_step(bytes, sizeof bytes), MB_REFUSED_NO_RECORD);
+    external_length = 1; /* 3 before 255 */
+    CHECK(raw_run(bytes, sizeof bytes), MB_REFUSED_EXTERNAL_LENGTH);
+    CHECK(changed(), 0);
+    CHECK(memcmp(bytes, kept, sizeof bytes) == 0, true);
 }
 
 /* ---- steps and runs */
@@ -451,8 +507,8 @@ static void printed_run(void)
     begin();
     keep();
     STOPS(run(100000), MB_STOP_SERVICE, 0, 0, 4);
-    put(before.record, MB_AT_PLACE, 2, 5);
-    put(before.record, MB_AT_FLAGS, 1, 6); /* 0110 */
+    record_before.place = 5;
+    record_before.z = record_before.c = true;
     CHECK(changed(), 0);
 }
 
@@ -468,19 +524,19 @@ static void budget_zero(void)
 static void slices(void)
 {
     printed_run();
-    before = lent;
-    put_fresh(lent.record);
+    keep();
+    record = fresh_by_hand();
     STOPS(run(3), MB_STOP_BUDGET, 0, 0, 3);
-    CHECK(place_now(), 5);
+    CHECK(record.place, 5);
     STOPS(run(100000), MB_STOP_SERVICE, 0, 0, 1);
     CHECK(changed(), 0);
-    put_fresh(lent.record);
+    record = fresh_by_hand();
     STOPS(step(), MB_STOP_BUDGET, 0, 0, 1);
-    CHECK(place_now(), 1);
+    CHECK(record.place, 1);
     STOPS(step(), MB_STOP_BUDGET, 0, 0, 1);
-    CHECK(place_now(), 4);
+    CHECK(record.place, 4);
     STOPS(step(), MB_STOP_BUDGET, 0, 0, 1);
-    CHECK(place_now(), 5);
+    CHECK(record.place, 5);
     STOPS(step(), MB_STOP_SERVICE, 0, 0, 1);
     CHECK(changed(), 0);
 }
@@ -490,15 +546,15 @@ static void other_stops(void)
     begin();
     PAGE(0xE7FE, 0xBF00);
     STOPS(run(100000), MB_STOP_BUDGET, 0, 0, 100000);
-    CHECK(place_now(), 0);
+    CHECK(record.place, 0);
     begin();
     PAGE(0xBF00, 0xDF01, 0x0001, 0x0000); /* a tail call keeps its place */
     STOPS(run(100000), MB_STOP_SERVICE_BY_LITERAL, 1, 1, 2);
-    CHECK(place_now(), 1);
+    CHECK(record.place, 1);
     begin();
     PAGE(0xDFBF, 0xDF00); /* a direct syscall moves on */
     STOPS(run(100000), MB_STOP_SERVICE, 0xBF, 0, 1);
-    CHECK(place_now(), 1);
+    CHECK(record.place, 1);
 }
 
 static void movw(void)
@@ -506,8 +562,8 @@ static void movw(void)
     begin();
     PAGE(0xF241, 0x2034, 0xBF00, 0xDF00);
     STOPS(step(), MB_STOP_BUDGET, 0, 0, 1);
-    CHECK(register_now(0), 0x1234);
-    CHECK(place_now(), 2);
+    CHECK(record.r[0], 0x1234);
+    CHECK(record.place, 2);
 }
 
 /* cmp r0, r1 and blt to bundle 2, taken since N differs from V. */
@@ -515,25 +571,27 @@ static void blt(void)
 {
     begin();
     PAGE(0x4288, 0xDB01, 0xBF00, 0xDF00, 0xBF00, 0xDF00);
-    set_register(0, 0x80000000);
-    set_register(1, 1);
+    record.r[0] = 0x80000000;
+    record.r[1] = 1;
+    keep();
     STOPS(run(2), MB_STOP_BUDGET, 0, 0, 2);
-    CHECK(flags_now(), 3); /* N0 Z0 C1 V1 */
-    CHECK(place_now(), 4);
+    record_before.c = record_before.v = true; /* N0 Z0 C1 V1 */
+    record_before.place = 4;
+    CHECK(changed(), 0);
 }
 
 static void word_store(void)
 {
     begin();
     PAGE(0xF8C9, 0x0000, 0x2001, 0xDF00);
-    set_register(0, 0x89ABCDEF);
+    record.r[0] = 0x89ABCDEF;
     set_base(MB_BASE_RAM, 32764);
     keep();
     STOPS(step(), MB_STOP_BUDGET, 0, 0, 1);
     memcpy(before.ram + 32764, "\xEF\xCD\xAB\x89", 4);
-    put(before.record, MB_AT_PLACE, 2, 2);
+    record_before.place = 2;
     CHECK(changed(), 0);
-    set_place(0);
+    record.place = 0;
     set_base(MB_BASE_RAM, 32765);
     FAULTS(MB_FAULT_PAST_RAM);
 }
@@ -543,11 +601,11 @@ static void earlier_stores_stay(void)
 {
     begin();
     PAGE(0xF8C9, 0x0FFC, 0xF8C9, 0x0FFD, 0x2001, 0xDF00);
-    set_register(0, 0x89ABCDEF);
+    record.r[0] = 0x89ABCDEF;
     set_base(MB_BASE_RAM, 28672);
     STOPS(run(10), MB_STOP_FAULT, MB_FAULT_PAST_RAM, 0, 1);
-    CHECK(get(lent.ram, 32764, 4), 0x89ABCDEF);
-    CHECK(place_now(), 2);
+    CHECK(ram_word(32764), 0x89ABCDEF);
+    CHECK(record.place, 2);
 }
 
 /* The base by validate(r0), a store by it, and the exit, which leaves the base none. */
@@ -555,14 +613,15 @@ static void base_by_service(void)
 {
     begin();
     PAGE(0xDFE0, 0xBF00, 0xF8C9, 0x1000, 0x2001, 0xDF00);
-    set_register(0, 0x17FFC);
-    set_register(1, 0x11223344);
+    record.r[0] = 0x17FFC;
+    record.r[1] = 0x11223344;
     STOPS(run(2), MB_STOP_BUDGET, 0, 0, 2);
-    CHECK(base_now(), MB_BASE_RAM);
-    CHECK(get(lent.record, MB_AT_OFFSET, 4), 32764);
+    CHECK(record.base.kind, MB_BASE_RAM);
+    CHECK(record.base.offset, 32764);
     STOPS(run(100000), MB_STOP_SERVICE, 0, 0, 3);
-    CHECK(get(lent.ram, 32764, 4), 0x11223344);
-    CHECK(base_now(), MB_BASE_NONE);
+    CHECK(ram_word(32764), 0x11223344);
+    CHECK(record.base.kind, MB_BASE_NONE);
+    CHECK(record.base.offset, 0);
 }
 
 /* External data is read within the 256 bytes that hold the base. */
@@ -573,8 +632,8 @@ static void external_load(void)
     external_length = 512;
     set_base(MB_BASE_EXTERNAL, 252);
     STOPS(step(), MB_STOP_BUDGET, 0, 0, 1);
-    CHECK(register_now(0), 0xFCF7F2ED); /* 5 * 255 + 1 and so on, modulo 256 */
-    set_place(0);
+    CHECK(record.r[0], 0xFCF7F2ED); /* 5 * 255 + 1 and so on, modulo 256 */
+    record.place = 0;
     set_base(MB_BASE_EXTERNAL, 253);
     FAULTS(MB_FAULT_OFF_EXTERNAL_PAGE);
 }
@@ -591,7 +650,7 @@ static void other_faults(void)
     PAGE(0x9800, 0xDF00);
     FAULTS(MB_FAULT_PAST_STACK);
     PAGE(0xDFC1, 0xDF00);
-    set_sp(0x10000);
+    record.sp = 0x10000;
     FAULTS(MB_FAULT_LOW_STACK);
     PAGE(0x48FF, 0xDF00);
     FAULTS(MB_FAULT_PAST_PAGE);
@@ -603,21 +662,21 @@ static void refused_lengths(void)
 {
     begin();
     for (page_length = 1; page_length <= 3; page_length++)
-        REFUSED(MB_PAGE_LENGTH);
+        REFUSED(MB_REFUSED_PAGE_LENGTH);
     page_length = 260;
-    REFUSED(MB_PAGE_LENGTH);
+    REFUSED(MB_REFUSED_PAGE_LENGTH);
     begin();
     ram_length = 0;
-    REFUSED(MB_RAM_LENGTH);
+    REFUSED(MB_REFUSED_RAM_LENGTH);
     ram_length = MB_RAM_BYTES - 1;
-    REFUSED(MB_RAM_LENGTH);
+    REFUSED(MB_REFUSED_RAM_LENGTH);
     ram_length = MB_RAM_BYTES + 1;
-    REFUSED(MB_RAM_LENGTH);
+    REFUSED(MB_REFUSED_RAM_LENGTH);
     begin();
     external_length = 255;
-    REFUSED(MB_EXTERNAL_LENGTH);
+    REFUSED(MB_REFUSED_EXTERNAL_LENGTH);
     external_length = 257;
-    REFUSED(MB_EXTERNAL_LENGTH);
+    REFUSED(MB_REFUSED_EXTERNAL_LENGTH);
 }
 
 static void refused_records(void)
@@ -625,39 +684,36 @@ static void refused_records(void)
     for (int which = 0; which <= 4; which++) {
         begin();
         out_of_range(which);
-        REFUSED(MB_UNFIT_RECORD);
+        REFUSED(MB_REFUSED_UNFIT_RECORD);
     }
     begin();
     external_length = 256;
     set_base(MB_BASE_EXTERNAL, 256); /* in range, but past this data */
-    REFUSED(MB_UNFIT_RECORD);
-    for (int which = 0; which <= 3; which++) {
+    REFUSED(MB_REFUSED_UNFIT_RECORD);
+    for (int which = 0; which <= 2; which++) {
         begin();
         no_record(which);
-        REFUSED(MB_NO_RECORD);
+        REFUSED(MB_REFUSED_NO_RECORD);
     }
-    begin();
-    for (record_length = 43; record_length <= 45; record_length += 2)
-        REFUSED(MB_NO_RECORD);
 }
 
 static void refused_places(void)
 {
     begin();
-    set_place(6); /* bundle 3 is at the count */
-    REFUSED(MB_UNFIT_PLACE);
-    set_place(65535);
-    REFUSED(MB_UNFIT_PLACE);
+    record.place = 6; /* bundle 3 is at the count */
+    REFUSED(MB_REFUSED_UNFIT_PLACE);
+    record.place = 65535;
+    REFUSED(MB_REFUSED_UNFIT_PLACE);
     begin();
     PAGE(0xE7FE, 0xBF00);
-    set_place(1); /* after a terminator */
-    REFUSED(MB_UNFIT_PLACE);
+    record.place = 1; /* after a terminator */
+    REFUSED(MB_REFUSED_UNFIT_PLACE);
     PAGE(0xF8C9, 0x0000, 0x2001, 0xDF00);
-    set_place(1); /* inside a 32-bit instruction */
-    REFUSED(MB_UNFIT_PLACE);
+    record.place = 1; /* inside a 32-bit instruction */
+    REFUSED(MB_REFUSED_UNFIT_PLACE);
     begin();
     page_length = 0; /* count 0 */
-    REFUSED(MB_UNFIT_PLACE);
+    REFUSED(MB_REFUSED_UNFIT_PLACE);
 }
 
 /* Everything wrong at first, and then mended part by part: 1 to 3, 255, 4, 5. */
@@ -667,39 +723,132 @@ static void order(void)
     page_length = 3;
     ram_length = 1;
     external_length = 1;
-    set_sp(0);
-    set_place(128);
-    set_flags(16);
-    REFUSED(MB_PAGE_LENGTH);
+    record.sp = 0;
+    record.place = 128;
+    no_record(0);
+    REFUSED(MB_REFUSED_PAGE_LENGTH);
     page_length = 16;
-    REFUSED(MB_RAM_LENGTH);
+    REFUSED(MB_REFUSED_RAM_LENGTH);
     ram_length = MB_RAM_BYTES;
-    REFUSED(MB_EXTERNAL_LENGTH);
+    REFUSED(MB_REFUSED_EXTERNAL_LENGTH);
     external_length = 0;
-    REFUSED(MB_NO_RECORD);
-    set_flags(0);
-    REFUSED(MB_UNFIT_RECORD);
-    set_sp(0x18000);
-    REFUSED(MB_UNFIT_PLACE);
-    set_place(0);
+    REFUSED(MB_REFUSED_NO_RECORD);
+    set_base(MB_BASE_NONE, 0);
+    REFUSED(MB_REFUSED_UNFIT_RECORD);
+    record.sp = 0x18000;
+    REFUSED(MB_REFUSED_UNFIT_PLACE);
+    record.place = 0;
     STOPS(run(100000), MB_STOP_SERVICE, 0, 0, 4);
+}
+
+/* ---- null pointers with length 0 */
+
+static void null_page_and_data(void)
+{
+    mb_program nothing = mb_program_of(NULL, 0);
+    mb_setting on = mb_setting_of(nothing, NULL, 0);
+    mb_reading reading = {STALE, STALE};
+    mb_base base = {0xAA, STALE};
+    uint32_t count = STALE;
+    CHECK(mb_count(&nothing, &count), MB_ACCEPTED);
+    CHECK(count, 0);
+    CHECK(mb_read_bundle(&nothing, 0, &reading), MB_REFUSED_NO_SUCH_BUNDLE);
+    CHECK(mb_validate(&on, 0x17FFF, &base), MB_ACCEPTED);
+    CHECK(base.kind, MB_BASE_RAM);
+    CHECK(base.offset, 0x7FFF);
+    CHECK(mb_validate(&on, 0x80000000, &base), MB_ACCEPTED);
+    CHECK(base.kind, MB_BASE_NONE);
+}
+
+static void null_in_runs(void)
+{
+    mb_stopped stopped = stale_stop;
+    mb_setting nothing = mb_setting_of(mb_program_of(NULL, 0), NULL, 0), no_data;
+    begin();
+    no_data = mb_setting_of(program(), NULL, 0);
+    CHECK(mb_run(&no_data, lent.ram, ram_length, &record, 10, &stopped), MB_ACCEPTED);
+    CHECK(stopped.steps, 4);
+    record = fresh_by_hand();
+    CHECK(mb_step(&no_data, lent.ram, ram_length, &record, &stopped), MB_ACCEPTED);
+    CHECK(stopped.steps, 1);
+    CHECK(mb_run(&no_data, NULL, 0, &record, 10, &stopped), MB_REFUSED_RAM_LENGTH);
+    CHECK(mb_step(&no_data, NULL, 0, &record, &stopped), MB_REFUSED_RAM_LENGTH);
+    CHECK(mb_run(&nothing, lent.ram, ram_length, &record, 10, &stopped), MB_REFUSED_UNFIT_PLACE);
+    CHECK(mb_step(&nothing, lent.ram, ram_length, &record, &stopped), MB_REFUSED_UNFIT_PLACE);
+    CHECK(stopped.kind, MB_STOP_REFUSED);
+}
+
+static void null_rooms(void)
+{
+    begin();
+    CHECK(mb_store(&record, NULL, 0, NULL), MB_REFUSED_FORM_LENGTH);
+    CHECK(mb_load(NULL, 0, &record, NULL), MB_REFUSED_FORM_LENGTH);
+}
+
+/* ---- exits */
+
+static void check_exit(int line, uint32_t low, uint32_t literal, mb_exit_parts expected)
+{
+    mb_exit_parts parts = mb_exit(low, literal);
+    check(line, "kind", parts.kind, expected.kind);
+    check(line, "number", parts.number, expected.number);
+    check(line, "immediate", parts.immediate, expected.immediate);
+    check(line, "address", parts.address, expected.address);
+    check(line, "words", parts.words, expected.words);
+}
+
+#define EXIT(low, literal, ...) check_exit(__LINE__, (low), (literal), (mb_exit_parts){__VA_ARGS__})
+
+static void exits(void)
+{
+    EXIT(0x00, 0, MB_EXIT_RETURN, 0, 0, 0, 0);
+    EXIT(0x01, 0x7F123454, MB_EXIT_CALL, 0, 0, 0x80123454, 127);
+    EXIT(0x7F, 0x01FFFFFD, MB_EXIT_TAIL_CALL, 0, 0, 0x80FFFFFC, 1);
+    EXIT(0x05, 0x9FFFFFFE, MB_EXIT_SYSCALL, 8191, 0x7FFF, 0, 0);
+    EXIT(0x05, 0x80070003, MB_EXIT_TAIL_SYSCALL, 7, 1, 0, 0);
+    EXIT(0x05, 0xC0123456, MB_EXIT_LONG_BRANCH, 0, 0, 0x123456, 0);
+    EXIT(0x05, 0xE0123456, MB_EXIT_LONG_BRANCH, 0, 0, 0x80123456, 0);
+    EXIT(0xBF, 0, MB_EXIT_DIRECT_SYSCALL, 63, 0, 0, 0);
+    EXIT(0xE8, 0, MB_EXIT_BREAKPOINT, 0, 0, 0, 0);
+    EXIT(0xF7, 0, MB_EXIT_CALL_REGISTER, 7, 0, 0, 0);
+    EXIT(0xFF, 0, MB_EXIT_TAIL_CALL_REGISTER, 7, 0, 0, 0);
+}
+
+static void no_exits(void)
+{
+    EXIT(0x01, 0x7F123456, MB_EXIT_NONE, 0, 0, 0, 0); /* bit 1 of a call's literal */
+    EXIT(0x01, 0xA0000000, MB_EXIT_NONE, 0, 0, 0, 0); /* syscall 8192 */
+    EXIT(0x01, 0xC1123456, MB_EXIT_NONE, 0, 0, 0, 0); /* preload */
+    EXIT(0xC0, 0, MB_EXIT_NONE, 0, 0, 0, 0);
+    EXIT(0xE7, 0, MB_EXIT_NONE, 0, 0, 0, 0);
+    EXIT(0xEF, 0, MB_EXIT_NONE, 0, 0, 0, 0);
+    EXIT(0x100, 0, MB_EXIT_NONE, 0, 0, 0, 0);
+    EXIT(0xFFFFFFFF, 0, MB_EXIT_NONE, 0, 0, 0, 0);
+    EXIT(0x80, 0x7F123454, MB_EXIT_DIRECT_SYSCALL, 0, 0, 0, 0); /* the literal counts for 01 to 7F */
+}
+
+/* Only a stop at a service is decoded: value 1 with the literal 0 would be a call. */
+static void exits_of_stops(void)
+{
+    mb_stopped stopped = mb_nothing_run();
+    stopped.value = 1;
+    for (stopped.kind = 0; stopped.kind < 300; stopped.kind++) {
+        bool at_service = stopped.kind == MB_STOP_SERVICE || stopped.kind == MB_STOP_SERVICE_BY_LITERAL;
+        CHECK(mb_exit_of(&stopped).kind, at_service ? 2 : 0);
+    }
 }
 
 int main(void)
 {
     void (*const tests[])(void) = {
-        counts, count_of_a_full_page, count_refused, bundles, bases, base_at_the_end,
-        fresh, stored_and_read_back, form_range, form_length, record_of_another_length,
+        initialisers, counts, count_of_a_full_page, count_refused, bundles, bases, base_at_the_end,
+        stored_and_read_back, not_stored, not_read_back, form_length, raw_lengths, raw_flags,
         printed_run, budget_zero, slices, other_stops, movw, blt, word_store,
         earlier_stores_stay, base_by_service, external_load, other_faults,
         refused_lengths, refused_records, refused_places, order,
+        null_page_and_data, null_in_runs, null_rooms, exits, no_exits, exits_of_stops,
     };
     for (size_t i = 0; i < sizeof tests / sizeof tests[0]; i++)
         tests[i]();
-    if (failed > 0) {
-        printf("host.c: %u of %u checks failed\n", failed, passed + failed);
-        return 1;
-    }
-    printf("host.c: %u checks passed\n", passed);
-    return 0;
+    return outcome("host.c");
 }

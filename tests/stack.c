@@ -1,0 +1,134 @@
+/* How much stack each call of the archive takes: it is made on a painted stack of its own, and what isn't painted any more
+ * is what it took, from the arguments that its caller pushes down. Prints a line for each call; fails above MB_STACK_BYTES. */
+#define _XOPEN_SOURCE 700
+#include "marshbodkin.h"
+#include "records.h"
+
+#include <string.h>
+#include <ucontext.h>
+
+enum { STACK = 65536, PAINT = 0xA5 };
+
+static uint8_t stack[STACK];
+static const uint8_t *top; /* where the measured call begins */
+static ucontext_t caller;
+static void (*measured)(void);
+
+/* What is lent to the calls. */
+static uint8_t page[MB_PAGE_MOST], ram[MB_RAM_BYTES], external[256], record[MB_RECORD_BYTES], room[MB_RECORD_BYTES];
+static size_t page_length;
+static uint32_t code, numbers[5];
+static mb_stopped stopped;
+
+/* ---- the calls, each of which leaves 0 in code */
+
+static void version(void) { code = mb_raw_version() - MB_VERSION; }
+static void count(void) { code = mb_raw_count(page, page_length, &numbers[0]); }
+static void validate(void) { code = mb_raw_validate(0x80000001, external, sizeof external, &numbers[0], &numbers[1]); }
+static void fresh(void) { code = mb_raw_fresh(record, sizeof record); }
+static void store(void) { code = mb_raw_store(record, sizeof record, room, sizeof room); }
+static void load(void) { code = mb_raw_load(room, sizeof room, record, sizeof record); }
+
+static void read_bundle(void)
+{
+    for (uint32_t k = 0; k < page_length / 4; k++)
+        code = mb_raw_read_bundle(page, page_length, k, &numbers[0], &numbers[1]);
+}
+
+static void decode_exit(void)
+{
+    for (uint32_t low = 0; low < 256; low++)
+        mb_raw_exit(low, 0x80070001, &numbers[0], &numbers[1], &numbers[2], &numbers[3], &numbers[4]);
+}
+
+/* The page from its start to its exit. */
+static void run(void)
+{
+    fresh();
+    code = mb_raw_run(page, page_length, ram, sizeof ram, external, sizeof external, record, sizeof record, 1000,
+                      &stopped.kind, &stopped.value, &stopped.literal, &stopped.steps);
+}
+
+static void steps(void)
+{
+    fresh();
+    do {
+        code = mb_raw_step(page, page_length, ram, sizeof ram, external, sizeof external, record, sizeof record,
+                           &stopped.kind, &stopped.value, &stopped.literal, &stopped.steps);
+    } while (stopped.kind == MB_STOP_BUDGET);
+}
+
+/* No call: it takes more than any may. */
+static void greedy(void)
+{
+    volatile uint8_t area[MB_STACK_BYTES];
+    for (size_t i = 0; i < sizeof area; i++)
+        area[i] = 0;
+    code = area[0];
+}
+
+/* ---- the measure */
+
+static void on_the_stack(void)
+{
+    uint8_t here = 0;
+    top = &here + 1;
+    measured();
+}
+
+/* Bytes below the caller's frame that aren't painted any more; the frame itself, some words, is counted in. */
+static size_t taken_by(void (*call)(void))
+{
+    ucontext_t context;
+    size_t untouched = 0;
+    measured = call;
+    memset(stack, PAINT, sizeof stack);
+    getcontext(&context);
+    context.uc_stack.ss_sp = stack;
+    context.uc_stack.ss_size = sizeof stack;
+    context.uc_link = &caller;
+    makecontext(&context, on_the_stack, 0);
+    swapcontext(&caller, &context);
+    while (stack[untouched] == PAINT)
+        untouched++;
+    return (size_t)(top - (stack + untouched));
+}
+
+/* ---- a page that reaches every function of the archive */
+
+static void lend(void)
+{
+    static const uint16_t halfwords[] = {
+        0xDFC4, 0xDFE1, /* 0: SP down by 4 words; a base by r1 */
+        0xF240, 0x0100, 0xF2C0, 0x0101, /* 1, 2: r1 = 0x10000 */
+        0xBF00, 0xDFE1, 0xF8C9, 0x1000, 0xF8D8, 0x2000, 0xF9B9, 0x3001, /* 3 to 6: stores and loads by the base */
+        0x9001, 0x9801, 0x4801, 0xA802, /* 7, 8: by SP, and from the page */
+        0xFBB1, 0xF2F3, 0x4148, 0x41C8, /* 9, 10: udiv, adc, ror */
+        0xDF11, 0xDF12, 0xDF13, 0xDF14, 0xDF15, 0xBF00, /* 11 to 13: literal operations 1 to 5 */
+        0x2C01, 0xD001, 0x2401, 0xE7E1, /* 14, 15: once more from bundle 1 */
+        0xBF00, 0xDF16, /* 16: tail syscall by its literal */
+        0x0000, 0xC100, 0x0000, 0xC201, 0x0001, 0xC300, 0x0004, 0xC420, 0x0004, 0xC540, 0x0001, 0x8007, /* literals */
+    };
+    page_length = sizeof halfwords;
+    put_halfwords(page, halfwords, sizeof halfwords / sizeof halfwords[0]);
+}
+
+int main(void)
+{
+    static const struct { const char *name; void (*call)(void); bool runs; } calls[] = {
+        {"version", version, false}, {"count", count, false}, {"read_bundle", read_bundle, false},
+        {"validate", validate, false}, {"fresh", fresh, false}, {"step", steps, true}, {"run", run, true},
+        {"store", store, false}, {"load", load, false}, {"exit", decode_exit, false},
+    };
+    lend();
+    for (size_t i = 0; i < sizeof calls / sizeof calls[0]; i++) {
+        stopped = mb_nothing_run();
+        size_t taken = taken_by(calls[i].call);
+        printf("mb_raw_%s %zu\n", calls[i].name, taken);
+        CHECK(taken <= MB_STACK_BYTES, true);
+        CHECK(code, MB_ACCEPTED);
+        CHECK(stopped.value, calls[i].runs ? 0x16 : 0);
+    }
+    CHECK(taken_by(greedy) > MB_STACK_BYTES, true);
+    return outcome("stack.c");
+}
