@@ -27,7 +27,7 @@ must_differ ./target/release/programs --break lt-from-n "$lister" "$runner"
 echo "deliberate mistake found"
 
 ./target/release/library ${1+"$1"}
-for name in lt-from-n first-successor count-one-less base-one-off place-128; do
+for name in lt-from-n first-successor count-one-less base-one-off place-128 imm15-unshifted; do
     must_differ ./target/release/library --break "$name" ${1+"$1"}
 done
 echo "deliberate mistakes found"

@@ -2,13 +2,14 @@
 
 use crate::second::arith::{condition_passed, Flags};
 use crate::second::count::{count, successors, Reading};
+use crate::second::exits::{exit_of, Exit};
 use crate::second::memory::validate;
 use crate::second::page::Page;
 use crate::second::record::{Base, Record, LAST_PLACE};
 use crate::second::rules::Rules;
 
 /// Each mistake's name, and the rules with it.
-pub const MISTAKES: [(&str, Rules); 5] = [
+pub const MISTAKES: [(&str, Rules); 6] = [
     (
         "lt-from-n",
         Rules {
@@ -41,6 +42,13 @@ pub const MISTAKES: [(&str, Rules); 5] = [
         "place-128",
         Rules {
             in_range: place_128,
+            ..Rules::RIGHT
+        },
+    ),
+    (
+        "imm15-unshifted",
+        Rules {
+            exit: imm15_unshifted,
             ..Rules::RIGHT
         },
     ),
@@ -93,4 +101,16 @@ fn place_128(record: &Record) -> bool {
         ..record.clone()
     };
     nearly.is_in_range() && record.place <= LAST_PLACE + 1
+}
+
+/// The constant of a syscall is taken with the tail bit below it.
+fn imm15_unshifted(low: u32, literal: u32) -> Option<Exit> {
+    match exit_of(low, literal)? {
+        Exit::Syscall { number, tail, .. } => Some(Exit::Syscall {
+            number,
+            immediate: literal & 0xFFFF,
+            tail,
+        }),
+        other => Some(other),
+    }
 }

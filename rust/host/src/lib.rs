@@ -1,5 +1,6 @@
 //! The proved sandbox machine, for a host in Rust: the static library's calls
-//! behind types with the words of the build paper ("01").
+//! behind types with the words of the build paper ("01"). `docs/MACHINE.md` says
+//! what the machine does.
 //!
 //! Page, RAM, external data and record are the host's own; the library keeps
 //! nothing between calls. What is lent can be anything: a call that 01 refuses
@@ -9,16 +10,18 @@
 //! to the host from the third:
 //!
 //! ```
-//! use marshbodkin::{count, run, Record, Stop};
+//! use marshbodkin::{Exit, Program, Record, Setting};
 //!
 //! let halfwords = [0x2800u16, 0xD001, 0x2001, 0xDF00, 0x2000, 0xDF00, 0x2000, 0xBF00];
 //! let page: Vec<u8> = halfwords.iter().flat_map(|half| half.to_le_bytes()).collect();
-//! assert_eq!(count(&page), Ok(3));
+//! let program = Program::new(&page);
+//! assert_eq!(program.count(), Ok(3));
 //!
-//! let mut record = Record::fresh();
+//! let mut record = Record::default();
 //! let mut ram = vec![0; marshbodkin::RAM_LENGTH];
-//! let stopped = run(&page, &mut ram, &[], &mut record, 100_000)?;
-//! assert_eq!(stopped.stop, Stop::Service { low: 0, literal: None });
+//! let stopped = Setting::new(program).run(&mut ram, &mut record, 100_000)?;
+//! assert_eq!(stopped.stop.to_string(), "service exit 00");
+//! assert_eq!(stopped.stop.exit(), Some(Exit::Return));
 //! assert_eq!((stopped.steps, record.place), (4, 5));
 //! # Ok::<(), marshbodkin::Refusal>(())
 //! ```
@@ -26,112 +29,63 @@
 //! A place in the bundle past the count is refused:
 //!
 //! ```
-//! use marshbodkin::{run, Record, Refusal};
+//! use marshbodkin::{Program, Record, Refusal, Setting};
 //!
 //! let page = [0x01, 0x20, 0x00, 0xDF, 0x01, 0x20, 0x00, 0xBF]; // 2001 DF00, 2001 BF00
-//! let given = Record { place: 2, ..Record::fresh() };
+//! let given = Record { place: 2, ..Record::default() };
 //! let mut record = given;
 //! let mut ram = vec![0; marshbodkin::RAM_LENGTH];
-//! let refused = run(&page, &mut ram, &[], &mut record, 1).unwrap_err();
+//! let setting = Setting::new(Program::new(&page));
+//! let refused = setting.run(&mut ram, &mut record, 1).unwrap_err();
 //! assert_eq!(refused, Refusal::UnfitPlace);
-//! assert_eq!(refused.to_string(), "refused 5: place not fit");
+//! assert_eq!(refused.to_string(), "refused 5: place is not fit");
 //! assert_eq!(record, given);
 //! ```
+//!
+//! A host that changes the record between calls, say to hand in the results of a
+//! syscall, starts a new series of calls with it: what is proved of a series
+//! holds from any fit record and place. `examples/host.rs` is such a host.
+//!
+//! Programs, settings, records and enums will gain parts; hosts that make the
+//! first three as shown here, and match enums with `_` last, stay right.
 
 #![deny(unsafe_code)]
+#![deny(missing_docs)]
 
+mod exit;
+mod program;
 #[allow(unsafe_code)]
-pub mod calls;
+pub mod raw;
 mod record;
 mod refusal;
 mod stop;
+pub mod words;
 
+pub use exit::Exit;
+pub use program::{Program, Reading, Setting};
 pub use record::{Base, Flags, Record, RECORD_LENGTH};
 pub use refusal::Refusal;
 pub use stop::{Fault, Stop, Stopped};
 
-use refusal::verdict;
-use stop::stopped;
-
+/// Most bytes of a page, which are a multiple of [`BUNDLE_LENGTH`].
+pub const PAGE_MOST: usize = 256;
+/// Bytes of a bundle.
+pub const BUNDLE_LENGTH: usize = 4;
 /// Bytes of user RAM: no other length is accepted.
 pub const RAM_LENGTH: usize = 32_768;
+/// The address of the first byte of user RAM.
+pub const RAM_START: u32 = 0x1_0000;
+/// Most bytes of external data, which are a multiple of [`EXTERNAL_PAGE_LENGTH`].
+pub const EXTERNAL_MOST: usize = 16_777_216;
+/// Bytes of the pages of external data, which no load leaves.
+pub const EXTERNAL_PAGE_LENGTH: usize = 256;
+/// The address of the first byte of external data.
+pub const EXTERNAL_START: u32 = 0x8000_0000;
 
-/// What the reader says of a bundle.
-#[derive(Clone, Copy, Debug, PartialEq, Eq)]
-pub enum LargestSuccessor {
-    Bad,
-    /// No successor.
-    Nothing,
-    /// The largest successor.
-    Largest(u32),
-}
+/// The version of these calls: 65536 * major + 256 * minor + patch.
+pub const VERSION: u32 = 0x00_02_00;
 
-/// The count of a page. Refusal: 1.
-pub fn count(page: &[u8]) -> Result<u32, Refusal> {
-    let (code, count) = calls::count(page);
-    verdict(code)?;
-    Ok(count)
-}
-
-/// Reads a bundle of a page. Refusals: 1, 8.
-pub fn read_bundle(page: &[u8], bundle: u32) -> Result<LargestSuccessor, Refusal> {
-    let (code, kind, largest) = calls::read_bundle(page, bundle);
-    verdict(code)?;
-    Ok(match kind {
-        0 => LargestSuccessor::Bad,
-        1 => LargestSuccessor::Nothing,
-        2 => LargestSuccessor::Largest(largest),
-        kind => unreachable!("the library read a bundle of kind {kind}"),
-    })
-}
-
-/// The base of an address: 01's validate. Refusal: 3.
-pub fn validate(address: u32, external: &[u8]) -> Result<Base, Refusal> {
-    let (code, kind, offset) = calls::validate(address, external);
-    verdict(code)?;
-    match Base::of(kind, offset) {
-        Some(base) => Ok(base),
-        None => unreachable!("the library gave base kind {kind}, offset {offset}"),
-    }
-}
-
-/// The stored form of a record. Refusal: 7.
-pub fn store(record: &Record) -> Result<[u8; RECORD_LENGTH], Refusal> {
-    let mut room = [0; RECORD_LENGTH];
-    verdict(calls::store(&record.to_bytes(), &mut room))?;
-    Ok(room)
-}
-
-/// The record of a stored form. Refusals: 6, 7.
-pub fn load(stored: &[u8]) -> Result<Record, Refusal> {
-    let mut bytes = [0; RECORD_LENGTH];
-    verdict(calls::load(stored, &mut bytes))?;
-    Ok(Record::crossed(&bytes))
-}
-
-/// One step: a run with budget 1. Refusals: 1 to 5.
-pub fn step(
-    page: &[u8],
-    ram: &mut [u8],
-    external: &[u8],
-    record: &mut Record,
-) -> Result<Stopped, Refusal> {
-    let mut bytes = record.to_bytes();
-    let answer = calls::step(page, ram, external, &mut bytes);
-    *record = Record::crossed(&bytes);
-    stopped(answer)
-}
-
-/// A run with a budget. Refusals: 1 to 5.
-pub fn run(
-    page: &[u8],
-    ram: &mut [u8],
-    external: &[u8],
-    record: &mut Record,
-    budget: u32,
-) -> Result<Stopped, Refusal> {
-    let mut bytes = record.to_bytes();
-    let answer = calls::run(page, ram, external, &mut bytes, budget);
-    *record = Record::crossed(&bytes);
-    stopped(answer)
+/// The version of the archive that is linked, to be held against [`VERSION`].
+pub fn version() -> u32 {
+    raw::version()
 }

@@ -3,69 +3,85 @@
 use std::error::Error;
 use std::fmt;
 
-/// 01's refusals, in the order of their numbers, 1 to 8.
+use crate::words;
+
+/// Why a call is refused: 01's refusals, and the library's own.
 #[derive(Clone, Copy, Debug, PartialEq, Eq)]
+#[non_exhaustive]
 pub enum Refusal {
+    /// 1: the page is above 256 bytes or no multiple of 4.
     PageLength,
+    /// 2: RAM isn't 32,768 bytes.
     RamLength,
+    /// 3: the external data is above 16,777,216 bytes or no multiple of 256.
     ExternalLength,
+    /// 4: the record isn't fit.
     UnfitRecord,
+    /// 5: the place isn't fit.
     UnfitPlace,
+    /// 6: the stored form isn't 44 bytes.
     FormLength,
-    FormRange,
+    /// 7: the stored or given record is out of range. Where in it may be told
+    /// later, so that it is matched as `FormRange { .. }`.
+    #[non_exhaustive]
+    FormRange {},
+    /// 8: the asked bundle isn't in the page.
     NoSuchBundle,
+    /// 255, the library's own: the bytes hold no record. Of what a host can
+    /// write, only [`Base::Unknown`](crate::Base::Unknown) brings it.
+    NoRecord,
+    /// A number that this version doesn't know.
+    Unknown(u32),
 }
 
-const ALL: [Refusal; 8] = [
-    Refusal::PageLength,
-    Refusal::RamLength,
-    Refusal::ExternalLength,
-    Refusal::UnfitRecord,
-    Refusal::UnfitPlace,
-    Refusal::FormLength,
-    Refusal::FormRange,
-    Refusal::NoSuchBundle,
-];
-
 impl Refusal {
-    /// 01's number.
-    pub fn number(self) -> u8 {
-        self as u8 + 1
+    /// The refusal of what a call answers; 0 is none.
+    pub fn of(number: u32) -> Option<Refusal> {
+        Some(match number {
+            0 => return None,
+            1 => Refusal::PageLength,
+            2 => Refusal::RamLength,
+            3 => Refusal::ExternalLength,
+            4 => Refusal::UnfitRecord,
+            5 => Refusal::UnfitPlace,
+            6 => Refusal::FormLength,
+            7 => Refusal::FormRange {},
+            8 => Refusal::NoSuchBundle,
+            255 => Refusal::NoRecord,
+            unknown => Refusal::Unknown(unknown),
+        })
     }
 
-    fn reason(self) -> &'static str {
+    /// Its number.
+    pub fn number(self) -> u32 {
         match self {
-            Refusal::PageLength => "page length",
-            Refusal::RamLength => "RAM length",
-            Refusal::ExternalLength => "external length",
-            Refusal::UnfitRecord => "record not fit",
-            Refusal::UnfitPlace => "place not fit",
-            Refusal::FormLength => "stored form, or the room lent for it, not 44 bytes",
-            Refusal::FormRange => "stored or given record out of range",
-            Refusal::NoSuchBundle => "asked bundle not in the page",
+            Refusal::PageLength => 1,
+            Refusal::RamLength => 2,
+            Refusal::ExternalLength => 3,
+            Refusal::UnfitRecord => 4,
+            Refusal::UnfitPlace => 5,
+            Refusal::FormLength => 6,
+            Refusal::FormRange {} => 7,
+            Refusal::NoSuchBundle => 8,
+            Refusal::NoRecord => 255,
+            Refusal::Unknown(number) => number,
         }
     }
 }
 
 impl fmt::Display for Refusal {
     fn fmt(&self, f: &mut fmt::Formatter<'_>) -> fmt::Result {
-        write!(f, "refused {}: {}", self.number(), self.reason())
+        let number = self.number();
+        write!(f, "refused {number}: {}", words::refusal(number))
     }
 }
 
 impl Error for Refusal {}
 
-/// What a call's number says. 255 is no refusal: it comes only where bytes
-/// hold no record, and those of a [`Record`](crate::Record) always do.
+/// What a call's number says.
 pub(crate) fn verdict(code: u32) -> Result<(), Refusal> {
-    if code == 0 {
-        return Ok(());
-    }
-    match ALL
-        .iter()
-        .find(|refusal| u32::from(refusal.number()) == code)
-    {
-        Some(&refusal) => Err(refusal),
-        None => unreachable!("the library answered {code}"),
+    match Refusal::of(code) {
+        None => Ok(()),
+        Some(refusal) => Err(refusal),
     }
 }

@@ -1,8 +1,8 @@
-//! Each function against 01: what it answers, and each refusal it has.
+//! Each call against 01: what it answers, and each refusal it has.
 
 use marshbodkin::{
-    calls, count, load, read_bundle, run, step, store, validate, Base, Fault, Flags, LargestSuccessor, Record,
-    Refusal, Stop, Stopped, RAM_LENGTH, RECORD_LENGTH,
+    raw, Base, Exit, Fault, Flags, Program, Reading, Record, Refusal, Setting, Stop, Stopped,
+    RAM_LENGTH, RECORD_LENGTH,
 };
 
 /// 01's printed page: four bundles, of which three are counted.
@@ -12,11 +12,19 @@ const PRINTED: &[u16] = &[
 /// A word store of r0 by the base, and a return.
 const STORE: &[u16] = &[0xF8C9, 0x0000, 0x2001, 0xDF00];
 
+/// Why a call stopped and after how many steps, or why it was refused.
+type Outcome = Result<(Stop, u32), Refusal>;
+
 fn page_of(halfwords: &[u16]) -> Vec<u8> {
     halfwords
         .iter()
         .flat_map(|half| half.to_le_bytes())
         .collect()
+}
+
+/// The setting of a page without external data.
+fn alone(page: &[u8]) -> Setting<'_> {
+    Setting::new(Program::new(page))
 }
 
 /// A RAM in which a byte that moves or changes shows.
@@ -40,56 +48,57 @@ fn full_record() -> Record {
     }
 }
 
+fn outcome(answered: Result<Stopped, Refusal>) -> Outcome {
+    answered.map(|stopped| (stopped.stop, stopped.steps))
+}
+
 /// Runs the page from a record on a filled RAM, without external data.
-fn run_from(halfwords: &[u16], record: &mut Record, budget: u32) -> Result<Stopped, Refusal> {
-    run(&page_of(halfwords), &mut filled_ram(), &[], record, budget)
+fn run_from(halfwords: &[u16], record: &mut Record, budget: u32) -> Outcome {
+    let page = page_of(halfwords);
+    outcome(alone(&page).run(&mut filled_ram(), record, budget))
 }
 
-fn returned(steps: u32) -> Result<Stopped, Refusal> {
-    let stop = Stop::Service {
-        low: 0,
-        literal: None,
-    };
-    Ok(Stopped { stop, steps })
+fn service(low: u8, literal: Option<u32>) -> Stop {
+    Stop::Service { low, literal }
 }
 
-fn spent(steps: u32) -> Result<Stopped, Refusal> {
-    let stop = Stop::Budget;
-    Ok(Stopped { stop, steps })
+fn returned(steps: u32) -> Outcome {
+    Ok((service(0, None), steps))
 }
 
-fn faulted(fault: Fault) -> Result<Stopped, Refusal> {
-    let stop = Stop::Fault(fault);
-    Ok(Stopped { stop, steps: 0 })
+fn spent(steps: u32) -> Outcome {
+    Ok((Stop::Budget, steps))
 }
 
 #[test]
 fn counts_and_bundles() {
     let page = page_of(PRINTED);
-    assert_eq!(count(&page), Ok(3));
-    assert_eq!(count(&[]), Ok(0));
-    assert_eq!(count(&page[1..]), Err(Refusal::PageLength));
+    let (program, odd) = (Program::new(&page), Program::new(&page[1..]));
+    assert_eq!(program.count(), Ok(3));
+    assert_eq!(Program::new(&[]).count(), Ok(0));
+    assert_eq!(odd.count(), Err(Refusal::PageLength));
 
-    assert_eq!(read_bundle(&page, 0), Ok(LargestSuccessor::Largest(2)));
-    assert_eq!(read_bundle(&page, 1), Ok(LargestSuccessor::Nothing));
-    assert_eq!(read_bundle(&page, 3), Ok(LargestSuccessor::Largest(4)));
-    assert_eq!(read_bundle(&page_of(&[0xDE00, 0xDE00]), 0), Ok(LargestSuccessor::Bad));
-    assert_eq!(read_bundle(&page, 4), Err(Refusal::NoSuchBundle));
-    assert_eq!(read_bundle(&page[1..], 4), Err(Refusal::PageLength));
+    assert_eq!(program.read_bundle(0), Ok(Reading::Largest(2)));
+    assert_eq!(program.read_bundle(1), Ok(Reading::Nothing));
+    assert_eq!(program.read_bundle(3), Ok(Reading::Largest(4)));
+    let bad = page_of(&[0xDE00, 0xDE00]);
+    assert_eq!(Program::new(&bad).read_bundle(0), Ok(Reading::Bad));
+    assert_eq!(program.read_bundle(4), Err(Refusal::NoSuchBundle));
+    assert_eq!(odd.read_bundle(4), Err(Refusal::PageLength));
 }
 
 #[test]
 fn bases() {
-    let external = [0; 512];
-    assert_eq!(validate(0, &[]), Ok(Base::Ram(0xF0000)));
-    assert_eq!(validate(0x17FFF, &external), Ok(Base::Ram(0x7FFF)));
-    assert_eq!(validate(0x8000_01FF, &external), Ok(Base::External(511)));
-    assert_eq!(validate(0x8000_0200, &external), Ok(Base::None));
-    assert_eq!(validate(0x8000_0000, &[]), Ok(Base::None));
-    assert_eq!(
-        validate(0x10000, &external[1..]),
-        Err(Refusal::ExternalLength)
-    );
+    let data = [0; 512];
+    let setting = alone(&[]);
+    let external = setting.external(&data);
+    assert_eq!(setting.validate(0), Ok(Base::Ram(0xF0000)));
+    assert_eq!(external.validate(0x17FFF), Ok(Base::Ram(0x7FFF)));
+    assert_eq!(external.validate(0x8000_01FF), Ok(Base::External(511)));
+    assert_eq!(external.validate(0x8000_0200), Ok(Base::None));
+    assert_eq!(setting.validate(0x8000_0000), Ok(Base::None));
+    let odd = setting.external(&data[1..]);
+    assert_eq!(odd.validate(0x10000), Err(Refusal::ExternalLength));
 }
 
 #[test]
@@ -101,46 +110,33 @@ fn fresh_record() {
         place: 0,
         base: Base::None,
     };
-    assert_eq!(Record::fresh(), fresh);
-}
-
-#[test]
-fn bytes_of_a_record() {
-    let bytes = full_record().to_bytes();
-    assert_eq!(bytes[..8], [0x67, 0x45, 0x23, 0x81, 0x78, 0x56, 0x34, 0x92]);
-    assert_eq!(bytes[28..36], [0xDE, 0xBC, 0x9A, 0xF8, 0, 0, 1, 0]);
-    assert_eq!(bytes[36..], [1, 0xFF, 0xFF, 0x0F, 0, 127, 0, 9]);
-    assert_eq!(Record::from_bytes(&bytes), Some(full_record()));
-
-    let with = |at: usize, byte: u8| {
-        let mut changed = Record::fresh().to_bytes();
-        changed[at] = byte;
-        Record::from_bytes(&changed)
-    };
-    assert_eq!(with(36, 3), None);
-    assert_eq!(with(40, 1), None);
-    assert_eq!(with(43, 16), None);
-    assert_eq!(with(42, 0xFF).map(|record| record.place), Some(0xFF00));
+    assert_eq!(Record::default(), fresh);
 }
 
 #[test]
 fn stored_and_read_back() {
     let record = full_record();
-    assert_eq!(store(&record), Ok(record.to_bytes()));
-    assert_eq!(load(&record.to_bytes()), Ok(record));
+    let stored = record.store().expect("in range");
+    assert_eq!(stored[36..], [1, 0xFF, 0xFF, 0x0F, 0, 127, 0, 9]);
+    assert_eq!(<[u8; RECORD_LENGTH]>::try_from(&record), Ok(stored));
+    assert_eq!(Record::load(&stored), Ok(record));
+    assert_eq!(Record::try_from(&stored[..]), Ok(record));
+    assert_eq!(Record::load(&stored[1..]), Err(Refusal::FormLength));
 
+    let mut far_stored = stored;
+    far_stored[41] = 128;
     let far = Record {
         place: 128,
         ..record
     };
-    assert_eq!(store(&far), Err(Refusal::FormRange));
-    assert_eq!(load(&far.to_bytes()), Err(Refusal::FormRange));
-    assert_eq!(load(&record.to_bytes()[1..]), Err(Refusal::FormLength));
+    assert!(matches!(far.store(), Err(Refusal::FormRange { .. })));
+    let loaded = Record::load(&far_stored);
+    assert!(matches!(loaded, Err(Refusal::FormRange { .. })));
 }
 
 #[test]
 fn stops() {
-    let mut record = Record::fresh();
+    let mut record = Record::default();
     assert_eq!(run_from(PRINTED, &mut record, 0), spent(0));
     assert_eq!(run_from(PRINTED, &mut record, 3), spent(3));
     assert_eq!(run_from(PRINTED, &mut record, 100_000), returned(1));
@@ -152,28 +148,26 @@ fn stops() {
     let expected = Record {
         flags,
         place: 5,
-        ..Record::fresh()
+        ..Record::default()
     };
     assert_eq!(record, expected);
 
     let tail_call = &[0xBF00, 0xDF01, 0x0001, 0x0000];
-    let stop = Stop::Service {
-        low: 1,
-        literal: Some(1),
-    };
+    let stop = service(1, Some(1));
     assert_eq!(
-        run_from(tail_call, &mut Record::fresh(), 9),
-        Ok(Stopped { stop, steps: 2 })
+        run_from(tail_call, &mut Record::default(), 9),
+        Ok((stop, 2))
     );
 }
 
 #[test]
 fn a_step_is_a_run_with_budget_1() {
     let page = page_of(PRINTED);
-    let (mut ram, mut record) = (filled_ram(), Record::fresh());
+    let setting = alone(&page);
+    let (mut ram, mut record) = (filled_ram(), Record::default());
     let mut places = Vec::new();
     for expected in [spent(1), spent(1), spent(1), returned(1)] {
-        assert_eq!(step(&page, &mut ram, &[], &mut record), expected);
+        assert_eq!(outcome(setting.step(&mut ram, &mut record)), expected);
         places.push(record.place);
     }
     assert_eq!(places, [1, 4, 5, 5]);
@@ -184,31 +178,29 @@ fn faults() {
     let with = |base, sp| Record {
         base,
         sp,
-        ..Record::fresh()
+        ..Record::default()
     };
     let top = 0x18000;
+    let off_page = with(Base::External(253), top);
+    let low = with(Base::None, 0x10000);
     let cases: [(&[u16], Record, Fault); 6] = [
         (STORE, with(Base::None, top), Fault::NoBase),
         (STORE, with(Base::Ram(32_765), top), Fault::PastRam),
         (
             &[0xF8D8, 0x0000, 0xBF00, 0xDF00],
-            with(Base::External(253), top),
+            off_page,
             Fault::OffExternalPage,
         ),
         (&[0x9800, 0xDF00], with(Base::None, top), Fault::PastStack),
-        (
-            &[0xDFC1, 0xDF00],
-            with(Base::None, 0x10000),
-            Fault::LowStack,
-        ),
+        (&[0xDFC1, 0xDF00], low, Fault::LowStack),
         (&[0x48FF, 0xDF00], with(Base::None, top), Fault::PastPage),
     ];
-    for (number, (halfwords, given, fault)) in (1u8..).zip(cases) {
+    for (number, (halfwords, given, fault)) in (1..).zip(cases) {
         let (page, mut ram, mut record) = (page_of(halfwords), filled_ram(), given);
-        let ran = run(&page, &mut ram, &[0; 512], &mut record, 9);
-        assert_eq!(ran, faulted(fault));
-        let stepped = step(&page, &mut ram, &[0; 512], &mut record);
-        assert_eq!(stepped, faulted(fault));
+        let setting = alone(&page).external(&[0; 512]);
+        let faulted = Ok((Stop::Fault(fault), 0));
+        assert_eq!(outcome(setting.run(&mut ram, &mut record, 9)), faulted);
+        assert_eq!(outcome(setting.step(&mut ram, &mut record)), faulted);
         assert_eq!(record, given);
         assert!(ram == filled_ram());
         assert_eq!(fault.number(), number);
@@ -220,20 +212,22 @@ fn ram_is_written() {
     let mut ram = filled_ram();
     let mut expected = filled_ram();
     expected[32_764..].copy_from_slice(&[0xEF, 0xCD, 0xAB, 0x89]);
-    let mut record = Record::fresh();
+    let mut record = Record::default();
     record.registers[0] = 0x89AB_CDEF;
     record.base = Base::Ram(32_764);
-    assert_eq!(step(&page_of(STORE), &mut ram, &[], &mut record), spent(1));
+    let page = page_of(STORE);
+    let stepped = alone(&page).step(&mut ram, &mut record);
+    assert_eq!(outcome(stepped), spent(1));
     assert!(ram == expected);
     assert_eq!(record.place, 2);
 }
 
 /// A step and a run are refused, and leave the record and RAM as they were.
-fn check_refused(refusal: Refusal, page: &[u8], ram: usize, external: &[u8], given: Record) {
+fn check_refused(refusal: Refusal, setting: Setting, ram: usize, given: Record) {
     let (mut lent, mut record) = (filled_ram(), given);
-    let stepped = step(page, &mut lent[..ram], external, &mut record);
+    let stepped = setting.step(&mut lent[..ram], &mut record);
     assert_eq!(stepped, Err(refusal));
-    let ran = run(page, &mut lent[..ram], external, &mut record, 9);
+    let ran = setting.run(&mut lent[..ram], &mut record, 9);
     assert_eq!(ran, Err(refusal));
     assert_eq!(record, given);
     assert!(lent == filled_ram());
@@ -248,36 +242,88 @@ fn refused_steps_and_runs() {
         ..full_record()
     };
     let unfit = Record { sp: 0, ..far };
-    let (odd, short, data) = (&page[1..], RAM_LENGTH - 1, &external[1..]);
-    check_refused(Refusal::PageLength, odd, short, data, unfit);
-    check_refused(Refusal::RamLength, &page, short, data, unfit);
-    check_refused(Refusal::ExternalLength, &page, RAM_LENGTH, data, unfit);
-    check_refused(Refusal::UnfitRecord, &page, RAM_LENGTH, &external, unfit);
-    check_refused(Refusal::UnfitPlace, &page, RAM_LENGTH, &external, far);
+    let base = Base::Unknown { kind: 3, offset: 0 };
+    let no_record = Record { base, ..unfit };
+    let (odd, short) = (alone(&page[1..]).external(&external[1..]), RAM_LENGTH - 1);
+    let odd_data = alone(&page).external(&external[1..]);
+    let setting = alone(&page).external(&external);
+    check_refused(Refusal::PageLength, odd, short, no_record);
+    check_refused(Refusal::RamLength, odd_data, short, no_record);
+    check_refused(Refusal::ExternalLength, odd_data, RAM_LENGTH, no_record);
+    check_refused(Refusal::NoRecord, setting, RAM_LENGTH, no_record);
+    check_refused(Refusal::UnfitRecord, setting, RAM_LENGTH, unfit);
+    check_refused(Refusal::UnfitPlace, setting, RAM_LENGTH, far);
 }
 
 #[test]
-fn refusals_in_numbers_and_words() {
-    let in_order = [
-        Refusal::PageLength,
-        Refusal::RamLength,
-        Refusal::ExternalLength,
-        Refusal::UnfitRecord,
-        Refusal::UnfitPlace,
-        Refusal::FormLength,
-        Refusal::FormRange,
-        Refusal::NoSuchBundle,
-    ];
-    assert_eq!(in_order.map(Refusal::number), [1, 2, 3, 4, 5, 6, 7, 8]);
+fn a_refusal_is_an_error() {
     let error: Box<dyn std::error::Error> = Box::new(Refusal::RamLength);
-    assert_eq!(error.to_string(), "refused 2: RAM length");
+    assert_eq!(error.to_string(), "refused 2: RAM is not 32768 bytes");
+}
+
+/// The low byte and its literal, by themselves and in a stop, give the exit.
+fn check_exit(low: u8, literal: Option<u32>, exit: Option<Exit>) {
+    assert_eq!(Exit::of(low, literal.unwrap_or(1)), exit);
+    assert_eq!(service(low, literal).exit(), exit);
+}
+
+#[test]
+fn exits_by_the_low_byte() {
+    let rows = [
+        (0x00, Some(Exit::Return)),
+        (0xBF, Some(Exit::DirectSyscall { number: 63 })),
+        (0xC0, None),
+        (0xE8, Some(Exit::Breakpoint)),
+        (0xEF, None),
+        (0xF7, Some(Exit::CallRegister { register: 7 })),
+        (0xF8, Some(Exit::TailCallRegister { register: 0 })),
+    ];
+    for (low, exit) in rows {
+        check_exit(low, None, exit);
+    }
+    assert_eq!(service(0x01, None).exit(), None);
+    assert_eq!(Stop::Budget.exit(), None);
+}
+
+#[test]
+fn exits_by_the_literal() {
+    let call = |address, words| Exit::Call { address, words };
+    let tail_call = |address, words| Exit::TailCall { address, words };
+    let syscall = |number, immediate| Exit::Syscall { number, immediate };
+    let tail_syscall = |number, immediate| Exit::TailSyscall { number, immediate };
+    let branch = |address| Exit::LongBranch { address };
+    let rows = [
+        (0x7FFF_FFFC, Some(call(0x80FF_FFFC, 127))),
+        (0x0100_0005, Some(tail_call(0x8000_0004, 1))),
+        (0x0000_0002, None),
+        (0x9FFF_FFFE, Some(syscall(8191, 0x7FFF))),
+        (0x8007_0003, Some(tail_syscall(7, 1))),
+        (0xA000_0000, None),
+        (0xC001_0000, Some(branch(0x0001_0000))),
+        (0xE0FF_FFFF, Some(branch(0x80FF_FFFF))),
+        (0xC200_0000, None),
+    ];
+    for (literal, exit) in rows {
+        check_exit(0x01, Some(literal), exit);
+        check_exit(0x7F, Some(literal), exit);
+    }
+}
+
+#[test]
+fn versions() {
+    let parts = env!("CARGO_PKG_VERSION").split('.');
+    let package = parts.fold(0, |number, part| {
+        256 * number + part.parse::<u32>().expect("a number")
+    });
+    assert_eq!(marshbodkin::VERSION, package);
+    assert_eq!(marshbodkin::version(), marshbodkin::VERSION);
 }
 
 /// Bytes that hold no record meet 255 in a step and a run, after 1, 2 and 3;
 /// stored they are out of range, and nothing changes.
 #[test]
 fn no_record() {
-    let refused = |code| calls::Answer {
+    let refused = |code| raw::Answer {
         code,
         kind: 5,
         value: code,
@@ -287,20 +333,21 @@ fn no_record() {
     let mut ram = filled_ram();
     let mut bytes = [0xFF; RECORD_LENGTH];
     for (page, code) in [(&[0][..], 1), (&[], 255)] {
-        let ran = calls::run(page, &mut ram, &[], &mut bytes, 9);
+        let ran = raw::run(page, &mut ram, &[], &mut bytes, 9);
         assert_eq!(ran, refused(code));
-        let stepped = calls::step(page, &mut ram, &[], &mut bytes);
+        let stepped = raw::step(page, &mut ram, &[], &mut bytes);
         assert_eq!(stepped, refused(code));
     }
-    assert_eq!(calls::run(&[], &mut ram[1..], &[], &mut bytes, 9), refused(2));
-    assert_eq!(calls::run(&[], &mut ram, &[0], &mut bytes, 9), refused(3));
-    assert_eq!(calls::store(&bytes, &mut ram), 6);
-    assert_eq!(calls::store(&bytes, &mut ram[..RECORD_LENGTH]), 7);
-    assert_eq!(calls::load(&[], &mut bytes[1..]), 6);
-    assert_eq!(calls::load(&[], &mut bytes), 6);
-    assert_eq!(calls::load(&[0xFF; RECORD_LENGTH], &mut bytes[1..]), 6);
-    assert_eq!(calls::load(&[0xFE; RECORD_LENGTH], &mut bytes), 7);
-    assert_eq!(calls::fresh(&mut bytes[1..]), 6);
+    let short = raw::run(&[], &mut ram[1..], &[], &mut bytes, 9);
+    assert_eq!(short, refused(2));
+    assert_eq!(raw::run(&[], &mut ram, &[0], &mut bytes, 9), refused(3));
+    assert_eq!(raw::store(&bytes, &mut ram), 6);
+    assert_eq!(raw::store(&bytes, &mut ram[..RECORD_LENGTH]), 7);
+    assert_eq!(raw::load(&[], &mut bytes[1..]), 6);
+    assert_eq!(raw::load(&[], &mut bytes), 6);
+    assert_eq!(raw::load(&[0xFF; RECORD_LENGTH], &mut bytes[1..]), 6);
+    assert_eq!(raw::load(&[0xFE; RECORD_LENGTH], &mut bytes), 7);
+    assert_eq!(raw::fresh(&mut bytes[1..]), 6);
     assert_eq!(bytes, [0xFF; RECORD_LENGTH]);
     assert!(ram == filled_ram());
 }

@@ -6,7 +6,7 @@
 use std::hint::black_box;
 use std::time::Instant;
 
-use marshbodkin::calls;
+use marshbodkin::raw;
 use marshbodkin_check::assemble::{self as asm, page_bytes, Bundle};
 use marshbodkin_check::random;
 use marshbodkin_check::second::count::count_of;
@@ -141,7 +141,7 @@ fn runs(page: &[u8], budget: u32, times: usize) -> Taken {
         || {
             for _ in 0..times {
                 let mut record = stored_bytes(&fresh);
-                let answer = calls::run(black_box(page), &mut ram, &[], &mut record, budget);
+                let answer = raw::run(black_box(page), &mut ram, &[], &mut record, budget);
                 assert_eq!((answer.kind, answer.steps), (0, budget));
             }
         },
@@ -159,7 +159,7 @@ fn counts(pages: &[Vec<u8>], times: usize) -> Taken {
     measure(
         || {
             for page in pages.iter().cycle().take(times) {
-                black_box(calls::count(black_box(page)));
+                black_box(raw::count(black_box(page)));
             }
         },
         || {

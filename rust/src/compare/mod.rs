@@ -2,12 +2,13 @@
 //! bytes on both sides. No expected answer comes from the library.
 //!
 //! - [`sides`]: each call on both sides, and [`report`] for a difference.
-//! - [`forms`], [`reader`], [`steps`], [`pages`], [`refusals`], [`fixed`]: the
-//!   parts. Each stops at its first difference.
+//! - [`exits`], [`forms`], [`reader`], [`steps`], [`pages`], [`refusals`],
+//!   [`fixed`]: the parts. Each stops at its first difference.
 //! - [`records`] and [`cases`]: what the parts hand over.
 //! - [`tally`]: what was met; a class that was not is a failure too.
 
 pub mod cases;
+pub mod exits;
 pub mod fixed;
 pub mod forms;
 pub mod pages;
@@ -36,7 +37,8 @@ pub struct Comparison {
 /// A part: its name and what it does.
 type Part = (&'static str, fn(&mut Comparison) -> Same);
 
-const PARTS: [Part; 6] = [
+const PARTS: [Part; 7] = [
+    ("exits", exits::compare),
     ("forms", forms::compare),
     ("reader", reader::compare),
     ("steps", steps::compare),

@@ -88,6 +88,13 @@ pub fn validation<T: Debug>(v: u32, external: &[u8], library: T, second: T) -> S
     )
 }
 
+/// A difference of an exit.
+pub fn exit<T: Debug>(low: u32, literal: u32, library: T, second: T) -> String {
+    format!(
+        "exit of {low:02X} with literal {literal:08X}\nlibrary: {library:X?}\nsecond program: {second:X?}\n",
+    )
+}
+
 /// A difference of storing or reading back; the library's side comes first.
 pub fn form(call: &str, from: &[u8], room: &[u8], sides: [(u32, &Vec<u8>); 2]) -> String {
     let side = |(code, bytes): (u32, &Vec<u8>)| format!("{code}, {}", show::bytes(bytes));

@@ -1,11 +1,12 @@
 //! Each call on both sides: the library's, and the second program's with its
 //! answer in the library's numbers.
 
-use marshbodkin::calls::{self, Answer as Numbers};
+use marshbodkin::raw::{self, Answer as Numbers, ExitNumbers};
 
 use super::report;
 use super::{Comparison, Same};
 use crate::second::count::{count_of, read_bundle_of, Reading};
+use crate::second::exits::Exit;
 use crate::second::machine::{run_by, Answer, Stop};
 use crate::second::memory::{validate_with, RAM_SIZE};
 use crate::second::record::{parse, read_back, store, stored_bytes, Base, Record, STORED};
@@ -136,7 +137,7 @@ fn library_run(handed: &Handed, ram: &mut [u8]) -> Given {
     let mut record = handed.record.to_vec();
     let (page, external) = (handed.page, handed.external);
     Given {
-        numbers: calls::run(page, ram, external, &mut record, handed.budget),
+        numbers: raw::run(page, ram, external, &mut record, handed.budget),
         record,
     }
 }
@@ -145,7 +146,7 @@ fn library_run(handed: &Handed, ram: &mut [u8]) -> Given {
 fn library_step(handed: &Handed, ram: &mut [u8]) -> Given {
     let mut record = handed.record.to_vec();
     Given {
-        numbers: calls::step(handed.page, ram, handed.external, &mut record),
+        numbers: raw::step(handed.page, ram, handed.external, &mut record),
         record,
     }
 }
@@ -168,6 +169,36 @@ fn base_numbers((base, refusal): (Base, Option<u8>)) -> (u32, u32, u32) {
         Base::External(offset) => (2, offset),
     };
     (code(refusal), kind, offset)
+}
+
+/// An exit in numbers.
+fn exit_numbers(exit: Option<Exit>) -> ExitNumbers {
+    let tailed = |kind: u32, tail: bool| kind + u32::from(tail);
+    let (kind, number, immediate, address, words) = match exit {
+        None => (0, 0, 0, 0, 0),
+        Some(Exit::Return) => (1, 0, 0, 0, 0),
+        Some(Exit::Call {
+            address,
+            words,
+            tail,
+        }) => (tailed(2, tail), 0, 0, address, words),
+        Some(Exit::Syscall {
+            number,
+            immediate,
+            tail,
+        }) => (tailed(4, tail), number, immediate, 0, 0),
+        Some(Exit::LongBranch { address }) => (6, 0, 0, address, 0),
+        Some(Exit::DirectSyscall { number }) => (7, number, 0, 0, 0),
+        Some(Exit::Breakpoint) => (8, 0, 0, 0, 0),
+        Some(Exit::CallRegister { register, tail }) => (tailed(9, tail), register as u32, 0, 0, 0),
+    };
+    ExitNumbers {
+        kind,
+        number,
+        immediate,
+        address,
+        words,
+    }
 }
 
 impl Comparison {
@@ -205,7 +236,7 @@ impl Comparison {
 
     /// The count.
     pub fn count(&mut self, page: &[u8]) -> Result<u32, String> {
-        let library = calls::count(page);
+        let library = raw::count(page);
         let (count, refusal) = count_of(self.rules, page);
         let second = (code(refusal), count as u32);
         if library != second {
@@ -217,7 +248,7 @@ impl Comparison {
 
     /// The reader.
     pub fn read(&mut self, page: &[u8], bundle: u32) -> Same {
-        let library = calls::read_bundle(page, bundle);
+        let library = raw::read_bundle(page, bundle);
         let second = reading_numbers(read_bundle_of(self.rules, page, bundle as usize));
         if library != second {
             let call = format!("read_bundle {bundle}");
@@ -229,7 +260,7 @@ impl Comparison {
 
     /// Base validation.
     pub fn validate(&mut self, v: u32, external: &[u8]) -> Same {
-        let library = calls::validate(v, external);
+        let library = raw::validate(v, external);
         let second = base_numbers(validate_with(self.rules, v, external));
         if library != second {
             return Err(report::validation(v, external, library, second));
@@ -241,7 +272,7 @@ impl Comparison {
     /// Storing a record in room of these bytes.
     pub fn store(&mut self, record: &[u8], room: &[u8]) -> Result<Vec<u8>, String> {
         let (mut library, mut second) = (room.to_vec(), room.to_vec());
-        let answered = calls::store(record, &mut library);
+        let answered = raw::store(record, &mut library);
         let expected = match record_in(record) {
             _ if record.len() != STORED || room.len() != STORED => FORM_LENGTH,
             None => FORM_RANGE,
@@ -258,7 +289,7 @@ impl Comparison {
     /// Reading a stored form back to room of these bytes.
     pub fn load(&mut self, stored: &[u8], room: &[u8]) -> Result<Vec<u8>, String> {
         let (mut library, mut second) = (room.to_vec(), room.to_vec());
-        let answered = calls::load(stored, &mut library);
+        let answered = raw::load(stored, &mut library);
         let expected = if room.len() == STORED {
             let (record, refusal) = read_back(self.rules, stored);
             if refusal.is_none() {
@@ -279,7 +310,7 @@ impl Comparison {
     /// The fresh record in room of these bytes.
     pub fn fresh(&mut self, room: &[u8]) -> Same {
         let (mut library, mut second) = (room.to_vec(), room.to_vec());
-        let answered = calls::fresh(&mut library);
+        let answered = raw::fresh(&mut library);
         let expected = if room.len() == STORED {
             second = stored_bytes(&Record::fresh());
             0
@@ -291,6 +322,16 @@ impl Comparison {
             return Err(report::form("fresh", &[], room, sides));
         }
         self.tally.call("fresh", expected);
+        Ok(())
+    }
+    /// What an exit asks of the host.
+    pub fn exit(&mut self, low: u32, literal: u32) -> Same {
+        let library = raw::exit(low, literal);
+        let second = exit_numbers((self.rules.exit)(low, literal));
+        if library != second {
+            return Err(report::exit(low, literal, library, second));
+        }
+        self.tally.exit(second.kind);
         Ok(())
     }
 }

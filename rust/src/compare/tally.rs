@@ -3,7 +3,7 @@
 use std::collections::{BTreeMap, BTreeSet};
 use std::fmt;
 
-use marshbodkin::calls::Answer as Numbers;
+use marshbodkin::raw::Answer as Numbers;
 
 use super::sides::{record_in, Given, Handed};
 use crate::names::{self, BAD_WORDS, NARROW, SERVICES, WIDE, WORDS};
@@ -32,6 +32,20 @@ const MARK: &str = "mark";
 const FAULTS: [&str; 6] = ["1", "2", "3", "4", "5", "6"];
 const READINGS: [&str; 3] = ["bad", "none", "largest"];
 const BASES: [&str; 3] = ["none", "RAM", "external"];
+/// The kinds of exit, and what is none.
+const EXITS: [&str; 11] = [
+    "none",
+    "return",
+    "call",
+    "tail call",
+    "syscall",
+    "tail syscall",
+    "long branch",
+    "direct syscall",
+    "breakpoint",
+    "call by register",
+    "tail call by register",
+];
 /// The conditions: their branches by cccc, and cbz and cbnz.
 const BRANCHES: [&str; 16] = [
     "beq", "bne", "bcs", "bcc", "bmi", "bpl", "bvs", "bvc", "bhi", "bls", "bge", "blt", "bgt",
@@ -98,6 +112,11 @@ impl Tally {
         self.class("bases", BASES[kind as usize]);
     }
 
+    /// Counts an exit by its kind.
+    pub fn exit(&mut self, kind: u32) {
+        self.class("exits", EXITS[kind as usize]);
+    }
+
     /// How often a class was met.
     fn met(&self, group: &'static str, name: &'static str) -> u64 {
         self.classes.get(&(group, name)).copied().unwrap_or(0)
@@ -144,7 +163,9 @@ fn required() -> Vec<(&'static str, &'static str)> {
         .chain(narrow.chain(wide).map(|name| ("executed", name)))
         .chain(branches.clone().map(|&name| ("taken", name)))
         .chain(branches.map(|&name| ("not taken", name)))
-        .chain(words.map(|name| ("words read", name)))
+        .chain(words.clone().map(|name| ("words read", name)))
+        .chain(words.map(|name| ("exit words", name)))
+        .chain(EXITS.map(|name| ("exits", name)))
         .collect()
 }
 

@@ -419,8 +419,8 @@ impl Machine<'_> {
         };
         self.record.base = self.act(action)?;
         Ok(match action {
-            Action::Exit { terminator } => Next::Exit {
-                terminator,
+            Action::Exit(exit) => Next::Exit {
+                terminator: exit.is_terminator(),
                 low,
                 literal,
             },
@@ -432,7 +432,7 @@ impl Machine<'_> {
     fn act(&mut self, action: Action) -> Result<Base, Fault> {
         let sp = self.record.sp;
         match action {
-            Action::Exit { .. } | Action::Preload => {}
+            Action::Exit(_) | Action::Preload => {}
             Action::SetBaseFrom(n) => {
                 return Ok((self.rules.validate)(self.r(n), self.external.len()));
             }

@@ -3,6 +3,7 @@
 pub mod arith;
 pub mod count;
 pub mod decode;
+pub mod exits;
 pub mod machine;
 pub mod memory;
 pub mod page;

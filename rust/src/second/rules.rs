@@ -3,6 +3,7 @@
 
 use super::arith::{condition_passed, Flags};
 use super::count::{count, read_bundle, Reading};
+use super::exits::{exit_of, Exit};
 use super::memory::validate;
 use super::page::Page;
 use super::record::{Base, Record};
@@ -20,6 +21,8 @@ pub struct Rules {
     pub validate: fn(u32, usize) -> Base,
     /// The range tests of the stored form.
     pub in_range: fn(&Record) -> bool,
+    /// The exit of a low byte and its literal, if it is one.
+    pub exit: fn(u32, u32) -> Option<Exit>,
 }
 
 impl Rules {
@@ -30,5 +33,6 @@ impl Rules {
         count,
         validate,
         in_range: Record::is_in_range,
+        exit: exit_of,
     };
 }

@@ -1,64 +1,13 @@
 //! The library's calls as they are: over any bytes, answering in numbers.
 //!
-//! A record crosses as 44 bytes. Each call answers 0 (accepted) or the number of
-//! a refusal; a step and a run also 255, where bytes hold no record. This is the
-//! one module with `unsafe`; `tests/header.sh` compares its declarations with the
-//! source.
+//! A record crosses as 44 bytes. Each call but [`exit`] and [`version`] answers
+//! 0 (accepted) or the number of a refusal; a step and a run also 255, where bytes
+//! hold no record. This is the one module with `unsafe`.
 
-extern "C" {
-    fn mb_count(page: *const u8, page_length: usize, count: *mut u32) -> u32;
-    fn mb_read_bundle(
-        page: *const u8,
-        page_length: usize,
-        k: u32,
-        kind: *mut u32,
-        largest: *mut u32,
-    ) -> u32;
-    fn mb_validate(
-        v: u32,
-        external: *const u8,
-        external_length: usize,
-        kind: *mut u32,
-        offset: *mut u32,
-    ) -> u32;
-    fn mb_fresh(record: *mut u8, record_length: usize) -> u32;
-    fn mb_store(record: *const u8, record_length: usize, room: *mut u8, room_length: usize) -> u32;
-    fn mb_load(
-        stored: *const u8,
-        stored_length: usize,
-        record: *mut u8,
-        record_length: usize,
-    ) -> u32;
-    fn mb_run(
-        page: *const u8,
-        page_length: usize,
-        ram: *mut u8,
-        ram_length: usize,
-        external: *const u8,
-        external_length: usize,
-        record: *mut u8,
-        record_length: usize,
-        budget: u32,
-        kind: *mut u32,
-        value: *mut u32,
-        literal: *mut u32,
-        steps: *mut u32,
-    ) -> u32;
-    fn mb_step(
-        page: *const u8,
-        page_length: usize,
-        ram: *mut u8,
-        ram_length: usize,
-        external: *const u8,
-        external_length: usize,
-        record: *mut u8,
-        record_length: usize,
-        kind: *mut u32,
-        value: *mut u32,
-        literal: *mut u32,
-        steps: *mut u32,
-    ) -> u32;
-}
+use marshbodkin_sys::{
+    mb_raw_count, mb_raw_exit, mb_raw_fresh, mb_raw_load, mb_raw_read_bundle, mb_raw_run,
+    mb_raw_step, mb_raw_store, mb_raw_validate, mb_raw_version,
+};
 
 /// What a step or a run answers, and the numbers it was lent.
 ///
@@ -67,23 +16,47 @@ extern "C" {
 /// the number of the fault or of the answer.
 #[derive(Clone, Copy, Debug, Default, PartialEq, Eq)]
 pub struct Answer {
+    /// 0, or the number of the refusal.
     pub code: u32,
+    /// Why it stopped.
     pub kind: u32,
+    /// What the kind carries, or 0.
     pub value: u32,
+    /// The literal of kind 2, or 0.
     pub literal: u32,
+    /// The counted steps.
     pub steps: u32,
+}
+
+/// What an exit asks of the host, in numbers. One that the kind doesn't name is 0.
+///
+/// The kind is 0 no exit, 1 return, 2 call, 3 tail call, 4 syscall, 5 tail
+/// syscall, 6 long branch, 7 direct syscall, 8 breakpoint, 9 call by register,
+/// 10 tail call by register.
+#[derive(Clone, Copy, Debug, Default, PartialEq, Eq)]
+pub struct ExitNumbers {
+    /// Which exit it is.
+    pub kind: u32,
+    /// The number of a syscall, or of a register.
+    pub number: u32,
+    /// The constant of a syscall by a literal.
+    pub immediate: u32,
+    /// Where a call or a long branch goes.
+    pub address: u32,
+    /// By how many words a call lowers SP.
+    pub words: u32,
 }
 
 // Why every call below is sound: a slice's pointer is never null and is valid
 // for its length; what is lent to be written is a `&mut` slice or a local, so
-// nothing else overlaps it or touches it during the call; and each
-// declaration above is the function's own.
+// nothing else overlaps it or touches it during the call; and the declarations
+// are the functions' own, as `tests/header.sh` sees to.
 
 /// The answer and the count.
 pub fn count(page: &[u8]) -> (u32, u32) {
     let mut count = 0;
     // SAFETY: a slice and a local, as above.
-    let code = unsafe { mb_count(page.as_ptr(), page.len(), &mut count) };
+    let code = unsafe { mb_raw_count(page.as_ptr(), page.len(), &mut count) };
     (code, count)
 }
 
@@ -91,7 +64,7 @@ pub fn count(page: &[u8]) -> (u32, u32) {
 pub fn read_bundle(page: &[u8], k: u32) -> (u32, u32, u32) {
     let (mut kind, mut largest) = (0, 0);
     // SAFETY: a slice and two locals, as above.
-    let code = unsafe { mb_read_bundle(page.as_ptr(), page.len(), k, &mut kind, &mut largest) };
+    let code = unsafe { mb_raw_read_bundle(page.as_ptr(), page.len(), k, &mut kind, &mut largest) };
     (code, kind, largest)
 }
 
@@ -99,27 +72,28 @@ pub fn read_bundle(page: &[u8], k: u32) -> (u32, u32, u32) {
 pub fn validate(v: u32, external: &[u8]) -> (u32, u32, u32) {
     let (mut kind, mut offset) = (0, 0);
     // SAFETY: a slice and two locals, as above.
-    let code = unsafe { mb_validate(v, external.as_ptr(), external.len(), &mut kind, &mut offset) };
+    let code =
+        unsafe { mb_raw_validate(v, external.as_ptr(), external.len(), &mut kind, &mut offset) };
     (code, kind, offset)
 }
 
 /// Writes the fresh record.
 pub fn fresh(record: &mut [u8]) -> u32 {
     // SAFETY: one `&mut` slice, as above.
-    unsafe { mb_fresh(record.as_mut_ptr(), record.len()) }
+    unsafe { mb_raw_fresh(record.as_mut_ptr(), record.len()) }
 }
 
 /// Stores a record in the room.
 pub fn store(record: &[u8], room: &mut [u8]) -> u32 {
     // SAFETY: a slice and a `&mut` slice, as above.
-    unsafe { mb_store(record.as_ptr(), record.len(), room.as_mut_ptr(), room.len()) }
+    unsafe { mb_raw_store(record.as_ptr(), record.len(), room.as_mut_ptr(), room.len()) }
 }
 
 /// Reads a stored form back.
 pub fn load(stored: &[u8], record: &mut [u8]) -> u32 {
     // SAFETY: a slice and a `&mut` slice, as above.
     unsafe {
-        mb_load(
+        mb_raw_load(
             stored.as_ptr(),
             stored.len(),
             record.as_mut_ptr(),
@@ -133,7 +107,7 @@ pub fn run(page: &[u8], ram: &mut [u8], external: &[u8], record: &mut [u8], budg
     let mut answer = Answer::default();
     // SAFETY: slices, `&mut` slices and four parts of a local, as above.
     answer.code = unsafe {
-        mb_run(
+        mb_raw_run(
             page.as_ptr(),
             page.len(),
             ram.as_mut_ptr(),
@@ -157,7 +131,7 @@ pub fn step(page: &[u8], ram: &mut [u8], external: &[u8], record: &mut [u8]) -> 
     let mut answer = Answer::default();
     // SAFETY: slices, `&mut` slices and four parts of a local, as above.
     answer.code = unsafe {
-        mb_step(
+        mb_raw_step(
             page.as_ptr(),
             page.len(),
             ram.as_mut_ptr(),
@@ -173,4 +147,28 @@ pub fn step(page: &[u8], ram: &mut [u8], external: &[u8], record: &mut [u8]) -> 
         )
     };
     answer
+}
+
+/// What an exit asks of the host, by the low byte and the literal of a stop.
+pub fn exit(low: u32, literal: u32) -> ExitNumbers {
+    let mut exit = ExitNumbers::default();
+    // SAFETY: five parts of a local, as above.
+    unsafe {
+        mb_raw_exit(
+            low,
+            literal,
+            &mut exit.kind,
+            &mut exit.number,
+            &mut exit.immediate,
+            &mut exit.address,
+            &mut exit.words,
+        )
+    };
+    exit
+}
+
+/// The archive's version: 65536 * major + 256 * minor + patch.
+pub fn version() -> u32 {
+    // SAFETY: nothing is lent.
+    unsafe { mb_raw_version() }
 }

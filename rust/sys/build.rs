@@ -1,5 +1,5 @@
-//! Links the proved library, `libhost.a`: from the directory in
-//! `MARSHBODKIN_LIB`, or from where `rt staticlib host` puts it.
+//! Links the proved library, `libmarshbodkin.a`: from the directory in
+//! `MARSHBODKIN_LIB`, an absolute path, or from where `rt staticlib marshbodkin` puts it.
 
 use std::env;
 
@@ -12,14 +12,14 @@ fn main() {
         Some(given) => package.join(given),
         None => package.join("../../target/staticlib"),
     };
-    let archive = directory.join("libhost.a");
+    let archive = directory.join("libmarshbodkin.a");
     println!("cargo:rerun-if-changed={}", archive.display());
     if !archive.is_file() {
         panic!(
-            "{} isn't there: run `rt staticlib host` first, or name its directory in MARSHBODKIN_LIB",
+            "{} isn't there: run `rt staticlib marshbodkin` first, or name its directory in MARSHBODKIN_LIB",
             archive.display()
         );
     }
     println!("cargo:rustc-link-search=native={}", directory.display());
-    println!("cargo:rustc-link-lib=static=host");
+    println!("cargo:rustc-link-lib=static=marshbodkin");
 }

@@ -1,0 +1,187 @@
+//! A host to copy: it keeps the departures of pressure that a filter lets pass.
+//! The filter is `examples/departures.page`, named by the one argument: for each
+//! pair of observation and background in the external data it takes the
+//! departure, holds it to two limits, and tells the verdict by a syscall.
+
+use std::error::Error;
+use std::process::ExitCode;
+
+use marshbodkin::{version, Exit, Program, Record, Setting, Stop, VERSION};
+use marshbodkin::{BUNDLE_LENGTH, EXTERNAL_PAGE_LENGTH, EXTERNAL_START, RAM_LENGTH};
+
+type Outcome = Result<(), Box<dyn Error>>;
+
+/// Steps of a slice; between slices a host has time for other things.
+const SLICE: u32 = 20;
+/// Steps of a cycle, lest a filter loop for ever.
+const MOST_STEPS: u32 = 1000;
+
+/// The filter's registers.
+const NEXT_PAIR: usize = 0;
+const UPPER_LIMIT: usize = 1;
+const LOWER_LIMIT: usize = 2;
+const DEPARTURE: usize = 3;
+const BACKGROUND: usize = 4;
+const NUMBER_KEPT: usize = 5;
+const PAIRS_LEFT: usize = 7;
+
+/// Words are signed fixed point, 2^24 to the hPa; pressures count from 950 hPa.
+const ONE_HPA: f64 = 16_777_216.0;
+const ORIGIN: f64 = 950.0;
+
+/// Two words, the observation first.
+const PAIR_LENGTH: usize = 8;
+/// Number of the pair, observation and background in hPa.
+const PAIRS: [(usize, f64, f64); 7] = [
+    (0, 1012.0, 1010.0),
+    (1, 1017.0, 1010.0),
+    // A true low near a storm's core. Its departure less the upper limit
+    // overflows a word: a test of the sign bit alone would reject it.
+    (2, 870.0, 994.0),
+    (3, 860.0, 987.0),
+    (4, 1000.0, 1006.0),
+    (30, 998.0, 1001.0),
+    (31, 1003.0, 990.0),
+];
+
+fn word_of(hpa: f64) -> u32 {
+    (hpa * ONE_HPA) as i32 as u32
+}
+
+fn hpa_of(word: u32) -> f64 {
+    f64::from(word as i32) / ONE_HPA
+}
+
+/// The external data: one page, with room for 32 pairs.
+fn external_data() -> [u8; EXTERNAL_PAGE_LENGTH] {
+    let mut data = [0; EXTERNAL_PAGE_LENGTH];
+    for (pair, observation, background) in PAIRS {
+        let words = [observation, background].map(|hpa| word_of(hpa - ORIGIN).to_le_bytes());
+        data[PAIR_LENGTH * pair..][..PAIR_LENGTH].copy_from_slice(&words.concat());
+    }
+    data
+}
+
+/// A filter at work: what its runs are given, its RAM, and how many words of
+/// that the host has filled.
+struct Host<'a> {
+    setting: Setting<'a>,
+    ram: Vec<u8>,
+    kept: usize,
+}
+
+impl Host<'_> {
+    /// Runs the filter slice by slice until it returns or faults.
+    fn cycle(&mut self, record: &mut Record) -> Outcome {
+        let mut steps = 0;
+        while steps <= MOST_STEPS {
+            let stopped = self.setting.run(&mut self.ram, record, SLICE)?;
+            steps += stopped.steps;
+            match (stopped.stop, stopped.stop.exit()) {
+                (Stop::Budget, _) => {}
+                (Stop::Fault(fault), _) => {
+                    println!("{fault}");
+                    return Ok(());
+                }
+                (_, Some(Exit::Return)) => {
+                    println!("return after {steps} steps");
+                    return Ok(());
+                }
+                (_, Some(exit)) => self.serve(exit, record)?,
+                (other, None) => return Err(format!("stopped: {other}").into()),
+            }
+        }
+        Err("the filter does not end".into())
+    }
+
+    /// Answers a syscall; the filter goes on behind it.
+    fn serve(&mut self, exit: Exit, record: &mut Record) -> Outcome {
+        let departure = record.registers[DEPARTURE];
+        let verdict = match exit {
+            Exit::DirectSyscall { number: 0 } => {
+                record.registers[NUMBER_KEPT] = self.keep(departure)?;
+                "kept"
+            }
+            Exit::DirectSyscall { number: 1 } => "rejected",
+            other => return Err(format!("not served: {other}").into()),
+        };
+        let departure = hpa_of(departure);
+        let background = ORIGIN + hpa_of(record.registers[BACKGROUND]);
+        let observation = background + departure;
+        print!("{observation:.1} hPa, background {background:.1}: ");
+        println!("departure {departure:+.1} {verdict}");
+        Ok(())
+    }
+
+    /// Puts a departure into RAM, and tells how many there are.
+    fn keep(&mut self, departure: u32) -> Result<u32, Box<dyn Error>> {
+        let mut free = self.ram.chunks_exact_mut(4).skip(self.kept);
+        let room = free.next().ok_or("RAM is full")?;
+        room.copy_from_slice(&departure.to_le_bytes());
+        self.kept += 1;
+        Ok(u32::try_from(self.kept)?)
+    }
+}
+
+/// Points the filter at some pairs. A record that the host changed starts a new
+/// series of calls, of which the same is proved. A return leaves the stack to
+/// the host, and a fault leaves the base.
+fn begin(record: &mut Record, first: usize, pairs: u32) {
+    *record = Record {
+        registers: record.registers,
+        ..Record::default()
+    };
+    record.registers[NEXT_PAIR] = EXTERNAL_START + (PAIR_LENGTH * first) as u32;
+    record.registers[PAIRS_LEFT] = pairs;
+}
+
+/// Two cycles of the filter, with the record saved between them.
+fn cycles(host: &mut Host) -> Outcome {
+    let mut record = Record::default();
+    record.registers[UPPER_LIMIT] = word_of(6.0);
+    record.registers[LOWER_LIMIT] = word_of(-126.0);
+    println!("cycle 1");
+    begin(&mut record, 0, 5);
+    host.cycle(&mut record)?;
+    // Here a file or a link would take the bytes, and give them back.
+    let saved = record.store()?;
+    let mut record = Record::load(&saved)?;
+    println!("cycle 2");
+    // The host's mistake: two pairs are left, not three.
+    begin(&mut record, 30, 3);
+    host.cycle(&mut record)
+}
+
+/// All that is printed.
+fn show() -> Outcome {
+    if version() != VERSION {
+        return Err("wrapper and archive are of different versions".into());
+    }
+    let path = std::env::args().nth(1).ok_or("usage: host PAGE")?;
+    let page = std::fs::read(&path).map_err(|error| format!("{path}: {error}"))?;
+    let (program, external) = (Program::new(&page), external_data());
+    let bundles = page.len() / BUNDLE_LENGTH;
+    println!("count {} of {bundles} bundles", program.count()?);
+    let mut host = Host {
+        setting: Setting::new(program).external(&external),
+        ram: vec![0; RAM_LENGTH],
+        kept: 0,
+    };
+    cycles(&mut host)?;
+    print!("kept");
+    for word in host.ram.chunks_exact(4).take(host.kept) {
+        print!(" {:+.1}", hpa_of(u32::from_le_bytes(word.try_into()?)));
+    }
+    println!();
+    Ok(())
+}
+
+fn main() -> ExitCode {
+    match show() {
+        Ok(()) => ExitCode::SUCCESS,
+        Err(error) => {
+            eprintln!("host: {error}");
+            ExitCode::FAILURE
+        }
+    }
+}

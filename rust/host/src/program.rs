@@ -1,0 +1,139 @@
+//! A program and what it is run with.
+
+use crate::raw;
+use crate::record::{Base, Record};
+use crate::refusal::{verdict, Refusal};
+use crate::stop::Stopped;
+
+/// What the reader says of a bundle.
+#[derive(Clone, Copy, Debug, PartialEq, Eq)]
+#[non_exhaustive]
+pub enum Reading {
+    /// The bundle is bad.
+    Bad,
+    /// It has no successor.
+    Nothing,
+    /// Its largest successor.
+    Largest(u32),
+    /// Numbers that this version doesn't know.
+    Unknown {
+        /// What is said.
+        kind: u32,
+        /// The largest successor.
+        largest: u32,
+    },
+}
+
+impl Reading {
+    /// What the reader's two numbers say.
+    fn of(kind: u32, largest: u32) -> Reading {
+        match kind {
+            0 => Reading::Bad,
+            1 => Reading::Nothing,
+            2 => Reading::Largest(largest),
+            kind => Reading::Unknown { kind, largest },
+        }
+    }
+}
+
+/// A page, which is code up to its count.
+#[derive(Clone, Copy, Debug)]
+pub struct Program<'a> {
+    page: &'a [u8],
+}
+
+impl<'a> Program<'a> {
+    /// The program of a page. Any bytes will do here; calls refuse them.
+    pub fn new(page: &'a [u8]) -> Program<'a> {
+        Program { page }
+    }
+
+    /// How many bundles are code. Refusal: 1.
+    pub fn count(&self) -> Result<u32, Refusal> {
+        let (code, count) = raw::count(self.page);
+        verdict(code)?;
+        Ok(count)
+    }
+
+    /// Reads a bundle. Refusals: 1, 8.
+    pub fn read_bundle(&self, bundle: u32) -> Result<Reading, Refusal> {
+        let (code, kind, largest) = raw::read_bundle(self.page, bundle);
+        verdict(code)?;
+        Ok(Reading::of(kind, largest))
+    }
+}
+
+/// What a step or a run is given beside RAM, record and budget.
+///
+/// In a series of them all get the same setting.
+#[derive(Clone, Copy, Debug)]
+pub struct Setting<'a> {
+    program: Program<'a>,
+    external: &'a [u8],
+}
+
+impl<'a> Setting<'a> {
+    /// The program without external data.
+    pub fn new(program: Program<'a>) -> Setting<'a> {
+        let external = &[];
+        Setting { program, external }
+    }
+
+    /// The same with external data, which the program can only read.
+    pub fn external(self, external: &'a [u8]) -> Setting<'a> {
+        Setting { external, ..self }
+    }
+
+    /// The base of an address: 01's validate, which the program has no part
+    /// in. Refusal: 3.
+    pub fn validate(&self, address: u32) -> Result<Base, Refusal> {
+        let (code, kind, offset) = raw::validate(address, self.external);
+        verdict(code)?;
+        Ok(Base::of(kind, offset))
+    }
+
+    /// Runs from a record until the budget of steps is spent, a service is
+    /// for the host, or a fault. Refusals: 1, 2, 3, 255, 4, 5; RAM and record
+    /// then stay as they were.
+    pub fn run(
+        &self,
+        ram: &mut [u8],
+        record: &mut Record,
+        budget: u32,
+    ) -> Result<Stopped, Refusal> {
+        let page = self.program.page;
+        crossing(record, |bytes| {
+            raw::run(page, ram, self.external, bytes, budget)
+        })
+    }
+
+    /// One step: a run with budget 1.
+    pub fn step(&self, ram: &mut [u8], record: &mut Record) -> Result<Stopped, Refusal> {
+        let page = self.program.page;
+        crossing(record, |bytes| raw::step(page, ram, self.external, bytes))
+    }
+}
+
+/// A step or a run on a record's bytes, which come back if it isn't refused.
+fn crossing(
+    record: &mut Record,
+    call: impl FnOnce(&mut [u8]) -> raw::Answer,
+) -> Result<Stopped, Refusal> {
+    let mut bytes = record.to_bytes();
+    let stopped = Stopped::of(call(&mut bytes))?;
+    *record = Record::from_bytes(&bytes)?;
+    Ok(stopped)
+}
+
+#[cfg(test)]
+mod tests {
+    use super::*;
+
+    #[test]
+    fn unknown_numbers_are_values() {
+        let unknown = |kind| Reading::Unknown { kind, largest: 7 };
+        for kind in [3, 255, u32::MAX] {
+            assert_eq!(Reading::of(kind, 7), unknown(kind));
+        }
+    }
+}

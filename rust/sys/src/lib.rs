@@ -1,0 +1,108 @@
+//! The raw calls of the proved library, as its archive exports them.
+//!
+//! A host uses the package `marshbodkin`, which has safe calls over these. Each
+//! call but the last two answers 0 (accepted), the number of a refusal or, for a
+//! step and a run, 255 where bytes hold no record; the rest comes back in the
+//! numbers and bytes that are lent. `docs/MACHINE.md` has all numbers.
+//!
+//! What a caller owes, in every call:
+//! - no pointer is null, not even where the length is 0;
+//! - each area is as long as its length says, and stays valid during the call;
+//! - what the call may write overlaps nothing else that it is lent;
+//! - nothing else writes a lent area during the call, or reads one that the call
+//!   may write.
+
+#![no_std]
+#![deny(missing_docs)]
+
+// Nothing checks these against the archive when it is linked: `tests/header.sh`
+// compares them with the source.
+extern "C" {
+    /// The count of a page.
+    pub fn mb_raw_count(page: *const u8, page_length: usize, count: *mut u32) -> u32;
+
+    /// Bundle k of a page: kind 0 bad, 1 no successor, 2 the largest successor.
+    pub fn mb_raw_read_bundle(
+        page: *const u8,
+        page_length: usize,
+        k: u32,
+        kind: *mut u32,
+        largest: *mut u32,
+    ) -> u32;
+
+    /// The base of address v: kind 0 none, 1 RAM, 2 external, and the offset.
+    pub fn mb_raw_validate(
+        v: u32,
+        external: *const u8,
+        external_length: usize,
+        kind: *mut u32,
+        offset: *mut u32,
+    ) -> u32;
+
+    /// Writes the fresh record.
+    pub fn mb_raw_fresh(record: *mut u8, record_length: usize) -> u32;
+
+    /// Stores a record in the room.
+    pub fn mb_raw_store(
+        record: *const u8,
+        record_length: usize,
+        room: *mut u8,
+        room_length: usize,
+    ) -> u32;
+
+    /// Reads a stored form back.
+    pub fn mb_raw_load(
+        stored: *const u8,
+        stored_length: usize,
+        record: *mut u8,
+        record_length: usize,
+    ) -> u32;
+
+    /// Runs the record with a budget of steps; the four numbers say why and
+    /// when it stopped.
+    pub fn mb_raw_run(
+        page: *const u8,
+        page_length: usize,
+        ram: *mut u8,
+        ram_length: usize,
+        external: *const u8,
+        external_length: usize,
+        record: *mut u8,
+        record_length: usize,
+        budget: u32,
+        kind: *mut u32,
+        value: *mut u32,
+        literal: *mut u32,
+        steps: *mut u32,
+    ) -> u32;
+
+    /// One step: a run with budget 1.
+    pub fn mb_raw_step(
+        page: *const u8,
+        page_length: usize,
+        ram: *mut u8,
+        ram_length: usize,
+        external: *const u8,
+        external_length: usize,
+        record: *mut u8,
+        record_length: usize,
+        kind: *mut u32,
+        value: *mut u32,
+        literal: *mut u32,
+        steps: *mut u32,
+    ) -> u32;
+
+    /// What an exit asks of the host, by the low byte and the literal of a stop.
+    pub fn mb_raw_exit(
+        low: u32,
+        literal: u32,
+        kind: *mut u32,
+        number: *mut u32,
+        immediate: *mut u32,
+        address: *mut u32,
+        words: *mut u32,
+    );
+
+    /// The archive's version: 65536 * major + 256 * minor + patch.
+    pub fn mb_raw_version() -> u32;
+}
