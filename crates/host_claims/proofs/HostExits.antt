@@ -1,4 +1,4 @@
--- What a host decodes of a stop is the exit of the service that stands at the place.
+-- What a host decodes of a stop at a service is the exit of the page's service.
 use Prim.Native.Nat.{ℕ, _<_}
 use native.Mathlib.Omega.{arith}
 use mathlib.Core.Bool.{Bool, true, false, not, cond, _&&_, true≢false}
@@ -86,29 +86,36 @@ reports-literal page n w low e = go (takesLiteral low) e
     go true e = (cc, cc)
     go false e = (cc, cc)
 
-module _ (page : List ℕ) (r : Record) {exit : Exit} (here : ServiceAt page r exit) where
-  decodes-at : (stop : StopNumbers) → stop .value ≡ here .low
-      → (takesLiteral (here .low) ≡ true → stop .literal ≡ wordAt page (here .low))
-      → Decodes page stop
-  decodes-at stop v h =
-      let low = subst InWidth (here .stands) (in-width page (r .place)) in
-      let decoded : decodedStop stop ≡ exitNumbers (serviceOf page (here .low)) = rw v (told page (here .low) (stop .literal) low (here .column) h) in
-      record {
-        low = here .low;
-        decodes = decoded;
-        is-exit = ap (λ (x : ExitNumbers). eqb (x .kind) 0) decoded ∙ kinds (serviceOf page (here .low)) ∙ ap not (here .column);
-      }
+decodes-at : (page : List ℕ) (r : Record) {exit : Exit} (here : ServiceAt page r exit) (stop : StopNumbers) → here .low ≡ stop .value
+    → (takesLiteral (here .low) ≡ true → stop .literal ≡ wordAt page (here .low)) → Decodes page stop
+decodes-at page r here stop v h =
+    let low : here .low < 256 = subst InWidth (here .stands) (in-width page (r .place)) in
+    let decoded : decodedStop stop ≡ exitNumbers (serviceOf page (stop .value)) =
+    subst (λ n. decodedExit n (stop .literal) ≡ exitNumbers (serviceOf page n)) v (told page (here .low) (stop .literal) low (here .column) h) in
+    let column = subst (λ n. isExit (endingOf (serviceOf page n)) ≡ true) v (here .column) in
+    record {
+      decodes = decoded;
+      is-exit = ap (λ (x : ExitNumbers). eqb (x .kind) 0) decoded ∙ kinds (serviceOf page (stop .value)) ∙ ap not column;
+    }
 
--- a host's call that stops at a service, as demand 3 has it of each, tells what decodes to the exit of a service of the page
+-- a host's call that stops at a service, as demand 3 has it of each, tells what decodes to the exit of that service
 pub exit-decoded : (setting : Setting) (c : RecordCall) → OwnCall (hostMachine setting) (handedRecord c) (gaveRecord c)
     → AtService (crossedBy (c .call) .stop) → Decodes (setting .page) (crossedBy (c .call) .stop)
-exit-decoded setting c sound (inl e) =
-    let stop = crossedBy (c .call) .stop in
-    let here = subst (λ k. StopsBy (hostMachine setting) (handedRecord c) (gaveRecord c) (stopIn k (stop .value) (stop .literal))) e (sound .stops) .1 in
-    let carries = reports-direct (setting .page) (stop .value) (here .low) (here .reports) in
-    decodes-at (setting .page) _ here stop (carries .1) (λ t. absurd (true≢false (sym t ∙ carries .0)))
-exit-decoded setting c sound (inr e) =
-    let stop = crossedBy (c .call) .stop in
-    let here = subst (λ k. StopsBy (hostMachine setting) (handedRecord c) (gaveRecord c) (stopIn k (stop .value) (stop .literal))) e (sound .stops) .1 in
-    let carries = reports-literal (setting .page) (stop .value) (stop .literal) (here .low) (here .reports) in
-    decodes-at (setting .page) _ here stop (carries .0) (λ t. carries .1)
+exit-decoded setting c sound at = by at
+  where
+    stop : StopNumbers
+    stop = crossedBy (c .call) .stop
+
+    stops-by : (k : ℕ) → stop .kind ≡ k → StopsBy (hostMachine setting) (handedRecord c) (gaveRecord c) (stopIn k (stop .value) (stop .literal))
+    stops-by k e =
+        subst (λ j. StopsBy (hostMachine setting) (handedRecord c) (gaveRecord c) (stopIn j (stop .value) (stop .literal))) e (sound .stops)
+
+    by : AtService stop → Decodes (setting .page) stop
+    by (inl e) =
+        let here = stops-by 1 e .1 in
+        let carries = reports-direct (setting .page) (stop .value) (here .low) (here .reports) in
+        decodes-at (setting .page) _ here stop (sym (carries .1)) (λ t. absurd (true≢false (sym t ∙ carries .0)))
+    by (inr e) =
+        let here = stops-by 2 e .1 in
+        let carries = reports-literal (setting .page) (stop .value) (stop .literal) (here .low) (here .reports) in
+        decodes-at (setting .page) _ here stop (sym (carries .0)) (λ t. carries .1)

@@ -17,8 +17,7 @@ decodedStop stop = decodedExit (stop .value) (stop .literal)
 abbrev pub AtService : StopNumbers → Type 0
 AtService stop = (stop .kind ≡ 1) ⊎ (stop .kind ≡ 2)
 
--- the exit of a service of the page, never kind 0
+-- the exit of the page's service with the low byte that the stop tells, never kind 0
 pub record Decodes (page : List ℕ) (stop : StopNumbers) : Type 0 where
-  pub low : ℕ
-  pub decodes : decodedStop stop ≡ exitNumbers (serviceOf page low)
+  pub decodes : decodedStop stop ≡ exitNumbers (serviceOf page (stop .value))
   pub is-exit : eqb (decodedStop stop .kind) 0 ≡ false
