@@ -14,9 +14,9 @@ one-shl n h = shl-exact {a = 1} 1 n 32 (lit< tt) (omega arith) ∙ one-mul (2 ^ 
 pub shift-mask : (x lo n : ℕ) → n < 32 → bitAnd (x / 2 ^ lo) (1 * 2 ^ n % 2 ^ 32 - 1) ≡ x / 2 ^ lo % 2 ^ n
 shift-mask x lo n h = rw (one-shl n h) (and-mask (x / 2 ^ lo) n)
 
--- a word has no field above bit 31
-pub no-field : (x lo n : ℕ) → x < 2 ^ 32 → 32 ≤ lo → 0 ≡ x / 2 ^ lo % 2 ^ n
-no-field x lo n h l = rw (div-eq-of-lt (lt-of-lt-of-le h (pow-mono l))) (sym (zero-mod (2 ^ n)))
+-- a number of w bits has no field above them
+pub no-field : (w x lo n : ℕ) → x < 2 ^ w → w ≤ lo → 0 ≡ x / 2 ^ lo % 2 ^ n
+no-field w x lo n h l = rw (div-eq-of-lt (lt-of-lt-of-le h (pow-mono l))) (sym (zero-mod (2 ^ n)))
 
 -- a field of 32 bits or more is all that is above it
 pub whole-field : (x lo n : ℕ) → x < 2 ^ 32 → 32 ≤ n → x / 2 ^ lo ≡ x / 2 ^ lo % 2 ^ n

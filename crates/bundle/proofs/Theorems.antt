@@ -7,6 +7,7 @@ use native.Mathlib.Omega.{arith}
 use lib.ListN.{length}
 use borrow.Author.Tests.{lt-leb}
 use Rattle.page.specs.Page.{pageFits, bundlesIn, firstOf, secondOf}
+use Rattle.platform.specs.Programs.{Program}
 use Rattle.prefix.specs.Prefix.{Successors, bad, goes}
 use Rattle.prefix.specs.LargestSuccessor.{largestSuccessor, insert, Ascending}
 use Rattle.prefix.proofs.Successors.{insert-ascending, insert-length}
@@ -17,8 +18,9 @@ use Rattle.bundle.specs.declared.Flow.{Flow}
 use Rattle.bundle.specs.declared.Flow.the-variants.{Bad, Next, NextOr, To, Ends}
 use Rattle.bundle.specs.Reader.{readBundle}
 
-pub read-accepted : (page : List ℕ) (k : ℕ) → pageFits page ≡ true → k < bundlesIn page → readBundle page k .reading ≡ largestSuccessor (successorsOf page k)
-read-accepted page k f l = rw (f, lt-leb (bundlesIn page) k l)
+pub read-accepted : (program : Program) (k : ℕ) → pageFits (program .page) ≡ true → k < bundlesIn (program .page)
+    → readBundle program k .reading ≡ largestSuccessor (successorsOf program k)
+read-accepted program k f l = rw (f, lt-leb (bundlesIn (program .page)) k l)
 
 -- ---- at most three successors, ascending and without repeats
 
@@ -47,13 +49,15 @@ few-first (To b) l second next = either-few l (goes (b ∷ [])) bad (omega arith
 few-first Next l second next = few-second [] second next (omega arith, tt)
 few-first (NextOr b) l second next = few-second (b ∷ []) second next (omega arith, (tt, tt))
 
-pub at-most-three : (page : List ℕ) (k : ℕ) → Few (successorsOf page k)
+pub at-most-three : (program : Program) (k : ℕ) → Few (successorsOf program k)
 unfolding successorsOf
-at-most-three page k =
-    let w = decode32Of (firstOf page k) (secondOf page k) in
-    let i = decode16Of (firstOf page k) in
-    let j = decode16Of (secondOf page k) in
-    either-few (opens32 (firstOf page k)) (wide w (k + 1)) (cond (opens32 (secondOf page k)) bad (narrow page k i j))
+at-most-three program k =
+    let first = firstOf (program .page) k in
+    let second = secondOf (program .page) k in
+    let w = decode32Of first second in
+    let i = decode16Of first in
+    let j = decode16Of second in
+    either-few (opens32 first) (wide w (k + 1)) (cond (opens32 second) bad (narrow program k i j))
     (either-few (listed w) (goes ((k + 1) ∷ [])) bad (omega arith, (tt, tt)) tt)
-    (either-few (opens32 (secondOf page k)) bad (narrow page k i j) tt
-    (few-first (flowOf page (2 * k) i) (listed j) (flowOf page (2 * k + 1) j) (k + 1)))
+    (either-few (opens32 second) bad (narrow program k i j) tt
+    (few-first (flowOf program (2 * k) i) (listed j) (flowOf program (2 * k + 1) j) (k + 1)))

@@ -1,7 +1,6 @@
 -- Terminators, and how the flow goes on at an instruction, by its encoding and its place.
 use Prim.Native.Nat.{ℕ}
 use mathlib.Core.Bool.{Bool, true, false, cond}
-use mathlib.Core.List.{List}
 use lib.IntN.{pos}
 use Rattle.bits.specs.Fields.{bits}
 use Rattle.bits.specs.Integers.{SInt}
@@ -11,7 +10,8 @@ use Rattle.branch.specs.Branches.{targetOf}
 use Rattle.branch.specs.declared.Target.{Target}
 use Rattle.branch.specs.declared.Target.the-variants.{At}
 use Rattle.branch.specs.declared.Target.the-variants as target
-use Rattle.service.specs.Services.{serviceOf, endingOf}
+use Rattle.platform.specs.Programs.{Program}
+use Rattle.service.specs.Services.{endingIn}
 use Rattle.service.specs.declared.Ending.{Ending}
 use Rattle.service.specs.declared.Ending.the-variants.{GoesOn, Exit, LastExit}
 use Rattle.service.specs.declared.Ending.the-variants as ending
@@ -29,16 +29,16 @@ endsFlow Exit = false
 endsFlow LastExit = true
 endsFlow ending.Bad = false
 
--- the build paper's terminators: b and the services so marked
-abbrev pub terminator : List ℕ → Instruction → Bool
-terminator page (Data operation) = false
-terminator page (Memory access) = false
-terminator page (Cbz imm6 n) = false
-terminator page (Cbnz imm6 n) = false
-terminator page (Bcc condition imm8) = false
-terminator page (B imm11) = true
-terminator page (Service n) = endsFlow (endingOf (serviceOf page n))
-terminator page Unlisted = false
+-- terminators: b, the services that the build paper marks, and the syscalls that the platform says never return
+abbrev pub terminator : Program → Instruction → Bool
+terminator program (Data operation) = false
+terminator program (Memory access) = false
+terminator program (Cbz imm6 n) = false
+terminator program (Cbnz imm6 n) = false
+terminator program (Bcc condition imm8) = false
+terminator program (B imm11) = true
+terminator program (Service n) = endsFlow (endingIn program n)
+terminator program Unlisted = false
 
 -- ---- where it may go beside what stands behind it
 
@@ -55,15 +55,15 @@ serviceJump LastExit = NoJump
 serviceJump ending.Bad = jump.Bad
 
 -- offsets are signed for b and bcc, unsigned for cbz and cbnz
-abbrev pub jumpOf : List ℕ → ℕ → Instruction → Jump
-jumpOf page place (Data operation) = NoJump
-jumpOf page place (Memory access) = NoJump
-jumpOf page place (Cbz imm6 n) = jumpTo (targetOf place (pos imm6))
-jumpOf page place (Cbnz imm6 n) = jumpTo (targetOf place (pos imm6))
-jumpOf page place (Bcc condition imm8) = jumpTo (targetOf place (SInt 8 imm8))
-jumpOf page place (B imm11) = jumpTo (targetOf place (SInt 11 (bits imm11 10 0)))
-jumpOf page place (Service n) = serviceJump (endingOf (serviceOf page n))
-jumpOf page place Unlisted = jump.Bad
+abbrev pub jumpOf : Program → ℕ → Instruction → Jump
+jumpOf program place (Data operation) = NoJump
+jumpOf program place (Memory access) = NoJump
+jumpOf program place (Cbz imm6 n) = jumpTo (targetOf place (pos imm6))
+jumpOf program place (Cbnz imm6 n) = jumpTo (targetOf place (pos imm6))
+jumpOf program place (Bcc condition imm8) = jumpTo (targetOf place (SInt 8 imm8))
+jumpOf program place (B imm11) = jumpTo (targetOf place (SInt 11 (bits imm11 10 0)))
+jumpOf program place (Service n) = serviceJump (endingIn program n)
+jumpOf program place Unlisted = jump.Bad
 
 -- ---- the flow: it goes on to the next unless a terminator stops it
 
@@ -72,8 +72,8 @@ flowBy terminates jump.Bad = Bad
 flowBy terminates NoJump = cond terminates Ends Next
 flowBy terminates (JumpTo b) = cond terminates (To b) (NextOr b)
 
-unfoldable pub flowOf : List ℕ → ℕ → Instruction → Flow
-flowOf page place i = flowBy (terminator page i) (jumpOf page place i)
+unfoldable pub flowOf : Program → ℕ → Instruction → Flow
+flowOf program place i = flowBy (terminator program i) (jumpOf program place i)
 
 -- the build paper's "listed": it matches a listed encoding
 abbrev pub listed : Instruction → Bool

@@ -5,6 +5,7 @@ use lib.Dec.{leb}
 use Rattle.refusal.specs.Refusals.{Decision, Rule, rule, decision, whenAccepted, decisionOf}
 use Rattle.prefix.specs.LargestSuccessor.{Reading, badBundle, largestSuccessor, readingOf}
 use Rattle.page.specs.Page.{pageRule, bundlesIn}
+use Rattle.platform.specs.Programs.{Program}
 use Rattle.bundle.specs.Successors.{successorsOf}
 use Rattle.bundle.specs.declared.Read.{Read}
 
@@ -18,10 +19,10 @@ pub record ReaderAnswer : Type 0 where
   pub reading : Reading
 
 -- refused, a bad bundle
-abbrev pub readBundle : List ℕ → ℕ → ReaderAnswer
-readBundle page k = record {
-  decision = decision (readRules page k);
-  reading = whenAccepted (decision (readRules page k)) (largestSuccessor (successorsOf page k)) badBundle;
+abbrev pub readBundle : Program → ℕ → ReaderAnswer
+readBundle program k = record {
+  decision = decision (readRules (program .page) k);
+  reading = whenAccepted (decision (readRules (program .page) k)) (largestSuccessor (successorsOf program k)) badBundle;
 }
 
 -- the code's answer, by the build paper's numbers and values

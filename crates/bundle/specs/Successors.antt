@@ -6,6 +6,7 @@ use lib.ListN.{length}
 use Rattle.prefix.specs.Prefix.{Successors, bad, goes}
 use Rattle.prefix.specs.LargestSuccessor.{insert, Ascending}
 use Rattle.page.specs.Page.{firstOf, secondOf}
+use Rattle.platform.specs.Programs.{Program}
 use Rattle.isa.specs.ListedEncodings.{opens32, decode16Of, decode32Of}
 use Rattle.isa.specs.declared.Instruction.{Instruction}
 use Rattle.bundle.specs.Flow.{flowOf, listed}
@@ -33,14 +34,16 @@ abbrev pub wide : Instruction → ℕ → Successors
 wide i next = cond (listed i) (goes (next ∷ [])) bad
 
 -- two 16-bit instructions of bundle k, at places 2k and 2k+1
-abbrev pub narrow : List ℕ → ℕ → Instruction → Instruction → Successors
-narrow page k i j = afterFirst (flowOf page (2 * k) i) (listed j) (flowOf page (2 * k + 1) j) (k + 1)
+abbrev pub narrow : Program → ℕ → Instruction → Instruction → Successors
+narrow program k i j = afterFirst (flowOf program (2 * k) i) (listed j) (flowOf program (2 * k + 1) j) (k + 1)
 
 -- a 32-bit opening after a 16-bit first half makes the bundle bad
-unfoldable pub successorsOf : List ℕ → ℕ → Successors
-successorsOf page k =
-    cond (opens32 (firstOf page k)) (wide (decode32Of (firstOf page k) (secondOf page k)) (k + 1))
-    (cond (opens32 (secondOf page k)) bad (narrow page k (decode16Of (firstOf page k)) (decode16Of (secondOf page k))))
+unfoldable pub successorsOf : Program → ℕ → Successors
+successorsOf program k =
+    let first = firstOf (program .page) k in
+    let second = secondOf (program .page) k in
+    cond (opens32 first) (wide (decode32Of first second) (k + 1))
+    (cond (opens32 second) bad (narrow program k (decode16Of first) (decode16Of second)))
 
 -- at most three, ascending and without repeats
 abbrev pub Few : Successors → Type 0

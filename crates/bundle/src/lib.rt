@@ -4,18 +4,18 @@ ghost use mathlib.Core.List.{List};
 ghost use Prim.Native.Nat.{ℕ, _<_};
 ghost use Rattle.prefix.specs.Prefix.{goes};
 ghost use Rattle.prefix.specs.LargestSuccessor.{largestSuccessor, readingOf};
-ghost use Rattle.service.specs.Services.{endingOf};
+ghost use Rattle.platform.specs.Programs.{programOf};
 ghost use Rattle.bundle.specs.Flow.{jumpTo, serviceJump, jumpOf, flowBy, flowOf};
 ghost use Rattle.bundle.specs.Flow as flow;
 ghost use Rattle.bundle.specs.Successors.{afterSecond, afterFirst, wide, successorsOf};
 ghost use Rattle.bundle.specs.Reader.{readBundle, seenRead};
 use branch::Target;
 use isa::Instruction;
+use platform::Platform;
 use prefix::LargestSuccessor;
 use refusal::Refusal;
 use refusal::Verdict;
 use service::Ending;
-use service::Service;
 
 // Where an instruction may go beside what stands behind it: it is bad; nowhere; to a bundle.
 pub enum Jump {
@@ -51,9 +51,9 @@ fn ends_flow(e: Ending) -> bool
     }
 }
 
-// Terminators are b and the services so marked.
-pub fn is_terminator(page: &[u8], i: Instruction) -> bool
-    ensures { λ t. ⌜ t ≡ flow.terminator (now (page .entry)) i ⌝ }
+// Terminators are b, the services so marked, and syscalls that never return.
+pub fn is_terminator(page: &[u8], platform: Platform, i: Instruction) -> bool
+    ensures { λ t. ⌜ t ≡ flow.terminator (programOf (now (page .entry)) platform) i ⌝ }
 {
     match i {
         Instruction::Data(_) => false,
@@ -62,7 +62,7 @@ pub fn is_terminator(page: &[u8], i: Instruction) -> bool
         Instruction::Cbnz(_, _) => false,
         Instruction::Bcc(_, _) => false,
         Instruction::B(_) => true,
-        Instruction::Service(n) => ends_flow(service::ending_of(service::service_of(page, n))),
+        Instruction::Service(n) => ends_flow(service::ending_in(page, platform, n)),
         Instruction::Unlisted => false,
     }
 }
@@ -77,10 +77,10 @@ fn jump_to(t: Target) -> Jump
     }
 }
 
-fn service_jump(s: Service) -> Jump
-    ensures { λ r. ⌜ r ≡ serviceJump (endingOf s) ⌝ }
+fn service_jump(e: Ending) -> Jump
+    ensures { λ r. ⌜ r ≡ serviceJump e ⌝ }
 {
-    match service::ending_of(s) {
+    match e {
         Ending::GoesOn => Jump::NoJump,
         Ending::Exit => Jump::NoJump,
         Ending::LastExit => Jump::NoJump,
@@ -88,8 +88,8 @@ fn service_jump(s: Service) -> Jump
     }
 }
 
-fn jump_of(page: &[u8], place: u16, i: Instruction) -> Jump
-    ensures { λ r. ⌜ r ≡ jumpOf (now (page .entry)) place i ⌝ }
+fn jump_of(page: &[u8], platform: Platform, place: u16, i: Instruction) -> Jump
+    ensures { λ r. ⌜ r ≡ jumpOf (programOf (now (page .entry)) platform) place i ⌝ }
 {
     match i {
         Instruction::Data(_) => Jump::NoJump,
@@ -98,7 +98,7 @@ fn jump_of(page: &[u8], place: u16, i: Instruction) -> Jump
         Instruction::Cbnz(imm6, _) => jump_to(branch::compare_target(place, imm6)),
         Instruction::Bcc(_, imm8) => jump_to(branch::conditional_target(place, imm8)),
         Instruction::B(imm11) => jump_to(branch::branch_target(place, imm11)),
-        Instruction::Service(n) => service_jump(service::service_of(page, n)),
+        Instruction::Service(n) => service_jump(service::ending_in(page, platform, n)),
         Instruction::Unlisted => Jump::Bad,
     }
 }
@@ -121,10 +121,13 @@ fn flow_by(terminates: bool, jump: Jump) -> Flow
 }
 
 // The flow at an instruction that stands at a place.
-pub fn flow_of(page: &[u8], place: u16, i: Instruction) -> Flow
-    ensures { λ r. ⌜ r ≡ flowOf (now (page .entry)) place i ⌝ }
+pub fn flow_of(page: &[u8], platform: Platform, place: u16, i: Instruction) -> Flow
+    ensures { λ r. ⌜ r ≡ flowOf (programOf (now (page .entry)) platform) place i ⌝ }
 {
-    flow_by(is_terminator(page, i), jump_of(page, place, i))
+    flow_by(
+        is_terminator(page, platform, i),
+        jump_of(page, platform, place, i),
+    )
 }
 
 // The instruction matches a listed encoding.
@@ -192,9 +195,9 @@ fn of_wide(i: Instruction, next: u32) -> LargestSuccessor
     }
 }
 
-fn largest_at(page: &[u8], k: u32) -> LargestSuccessor
+fn largest_at(page: &[u8], platform: Platform, k: u32) -> LargestSuccessor
     requires { ⌜ k < 64 ⌝ }
-    ensures { λ r. ⌜ readingOf r ≡ largestSuccessor (successorsOf (now (page .entry)) k) ⌝ }
+    ensures { λ r. ⌜ readingOf r ≡ largestSuccessor (successorsOf (programOf (now (page .entry)) platform) k) ⌝ }
 {
     let h = page::halves_of(page, k);
     let first = h.first;
@@ -209,16 +212,16 @@ fn largest_at(page: &[u8], k: u32) -> LargestSuccessor
     let i = isa16::decode16(first);
     let j = isa16::decode16(second);
     after_first(
-        flow_of(page, place, i),
+        flow_of(page, platform, place, i),
         is_listed(j),
-        flow_of(page, place + 1, j),
+        flow_of(page, platform, place + 1, j),
         k + 1,
     )
 }
 
 // Bundle k of the page.
-pub fn read_bundle(page: &[u8], k: u32) -> Read
-    ensures { λ r. ⌜ seenRead r ≡ readBundle (now (page .entry)) k ⌝ }
+pub fn read_bundle(page: &[u8], platform: Platform, k: u32) -> Read
+    ensures { λ r. ⌜ seenRead r ≡ readBundle (programOf (now (page .entry)) platform) k ⌝ }
 {
     if !page::fits(page) {
         return Read {
@@ -234,6 +237,6 @@ pub fn read_bundle(page: &[u8], k: u32) -> Read
     }
     Read {
         verdict: Verdict::Accepted,
-        largest: largest_at(page, k),
+        largest: largest_at(page, platform, k),
     }
 }

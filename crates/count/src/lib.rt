@@ -1,6 +1,8 @@
-// The count of a page: its greatest closed prefix, in a single pass from the last bundle back.
+// The count of a program: its greatest closed prefix, in a single pass from the last bundle back.
 ghost use mathlib.Core.Path.{_≡_};
-ghost use Rattle.count.specs.Count.{countPage, seenCount};
+ghost use Rattle.platform.specs.Programs.{programOf};
+ghost use Rattle.count.specs.Count.{countProgram, seenCount};
+use platform::Platform;
 use refusal::Refusal;
 use refusal::Verdict;
 
@@ -9,8 +11,8 @@ pub struct Counted {
     pub count: u32,
 }
 
-pub fn count(page: &[u8]) -> Counted
-    ensures { λ r. ⌜ seenCount r ≡ countPage (now (page .entry)) ⌝ }
+pub fn count(page: &[u8], platform: Platform) -> Counted
+    ensures { λ r. ⌜ seenCount r ≡ countProgram (programOf (now (page .entry)) platform) ⌝ }
 {
     if !page::fits(page) {
         return Counted {
@@ -22,7 +24,7 @@ pub fn count(page: &[u8]) -> Counted
     let mut bound = k;
     while 0 < k {
         k -= 1;
-        let read = bundle::read_bundle(page, k);
+        let read = bundle::read_bundle(page, platform, k);
         let largest = read.largest;
         bound = prefix::bound_after(bound, largest, k);
     }

@@ -13,12 +13,13 @@ use Rattle.refusal.specs.declared.Refusal.{Refusal}
 use Rattle.refusal.specs.Refusals.{accepted, refusalNumber, decisionOf}
 use Rattle.refusal.proofs.Theorems.{passes}
 use Rattle.page.specs.Page.{pageFits, bundlesIn, firstOf, secondOf}
+use Rattle.platform.specs.Programs.{defaultProgram}
 use Rattle.prefix.specs.LargestSuccessor.{readingOf}
 use Rattle.bundle.specs.Reader.{ReaderAnswer, readBundle, seenRead}
 use Rattle.bundle.proofs.Theorems.{read-accepted}
 use Rattle.bundle.specs.declared.Read.{Read}
 use Rattle.count.specs.declared.Counted.{Counted}
-use Rattle.count.specs.Count.{countOf, CountAnswer, countPage, seenCount}
+use Rattle.count.specs.Count.{countOf, CountAnswer, countProgram, seenCount}
 use Rattle.refusal_line.specs.RefusalLine.{refusedText}
 use Rattle.lister_lines.specs.Lines.{headText, bundleText}
 use Rattle.listing.specs.Listing.{lineOf, bundleLines, listingBy, listingOf}
@@ -43,26 +44,26 @@ line-more page k =
 -- ---- what the reader and the count answer
 
 pub line-is : {first second count : ℕ} (page : List ℕ) (k : ℕ) (read : Read)
-    → pageFits page ≡ true → count ≡ countOf page → k < bundlesIn page
-    → first ≡ firstOf page k → second ≡ secondOf page k → seenRead read ≡ readBundle page k
+    → pageFits page ≡ true → count ≡ countOf (defaultProgram page) → k < bundlesIn page
+    → first ≡ firstOf page k → second ≡ secondOf page k → seenRead read ≡ readBundle (defaultProgram page) k
     → bundleText k first second (ltb k count) (readingOf (read .largest)) ≡ lineOf page k
-line-is page k read f c l p q r = rw (p, q, c, ap (λ (a : ReaderAnswer). a .reading) r, read-accepted page k f l)
+line-is page k read f c l p q r = rw (p, q, c, ap (λ (a : ReaderAnswer). a .reading) r, read-accepted (defaultProgram page) k f l)
 
-decision-is : {counted : Counted} {verdict : Verdict} (page : List ℕ) → seenCount counted ≡ countPage page → counted .verdict ≡ verdict
-    → countPage page .decision ≡ decisionOf verdict
+decision-is : {counted : Counted} {verdict : Verdict} (page : List ℕ) → seenCount counted ≡ countProgram (defaultProgram page) → counted .verdict ≡ verdict
+    → countProgram (defaultProgram page) .decision ≡ decisionOf verdict
 decision-is page e v = sym (ap (λ (a : CountAnswer). a .decision) e) ∙ ap decisionOf v
 
-pub accepted-count : {counted : Counted} (page : List ℕ) → seenCount counted ≡ countPage page → counted .verdict ≡ Accepted
-    → (pageFits page ≡ true) × (counted .count ≡ countOf page)
+pub accepted-count : {counted : Counted} (page : List ℕ) → seenCount counted ≡ countProgram (defaultProgram page) → counted .verdict ≡ Accepted
+    → (pageFits page ≡ true) × (counted .count ≡ countOf (defaultProgram page))
 accepted-count page e v =
     let f = passes (pageFits page) 1 [] accepted (decision-is page e v) .0 in
     (f, ap (λ (a : CountAnswer). a .count) e ∙ rw f)
 
-pub listing-accepted : {counted : Counted} (page : List ℕ) → seenCount counted ≡ countPage page → counted .verdict ≡ Accepted
+pub listing-accepted : {counted : Counted} (page : List ℕ) → seenCount counted ≡ countProgram (defaultProgram page) → counted .verdict ≡ Accepted
     → headText (bundlesIn page) (counted .count) ++ bundleLines page 0 (bundlesIn page) ≡ listingOf page
 listing-accepted page e v = rw (accepted-count page e v .1) (sym (ap (listingBy page) (decision-is page e v)))
 
 pub listing-refused : {counted : Counted} {refusal : Refusal} (page : List ℕ)
-    → seenCount counted ≡ countPage page → counted .verdict ≡ Refused refusal
+    → seenCount counted ≡ countProgram (defaultProgram page) → counted .verdict ≡ Refused refusal
     → refusedText (refusalNumber refusal) ≡ listingOf page
 listing-refused page e v = sym (ap (listingBy page) (decision-is page e v))

@@ -1,12 +1,13 @@
 -- A listing has at most 65 lines, of at most 36 bytes.
 use mathlib.Core.Path.{_≡_, refl}
 use mathlib.Core.Bool.{Bool, true, false, not, cond}
-use mathlib.Core.List.{List, [], _++_}
-use Prim.Native.Nat.{ℕ, zero, suc, _+_, _*_, _≤_}
+use mathlib.Core.List.{List, []}
+use Prim.Native.Nat.{ℕ, zero, suc, _*_, _≤_}
 use native.Mathlib.Omega.{arith}
 use lib.ListN.{length, length-append}
 use Rattle.refusal.specs.Refusals.{accepted, refused}
 use Rattle.page.specs.Page.{pageFits, bundlesIn}
+use Rattle.platform.specs.Programs.{defaultProgram}
 use Rattle.page.proofs.Theorems.{fitting}
 use Rattle.count.specs.Count.{countOf}
 use Rattle.refusal_line.proofs.Lengths.{refused-length}
@@ -24,7 +25,7 @@ by-fit : (page : List ℕ) (fits : Bool) → pageFits page ≡ fits
     → length (listingBy page (cond (not fits) (refused 1 []) accepted)) ≤ 36 * 65
 by-fit page true e =
     simp length-append
-    (omega (arith, fitting page e, head-length (bundlesIn page) (countOf page), lines-length page 0 (bundlesIn page)))
+    (omega (arith, fitting page e, head-length (bundlesIn page) (countOf (defaultProgram page)), lines-length page 0 (bundlesIn page)))
 by-fit page false e = omega (arith, refused-length 1)
 
 pub listing-length : (page : List ℕ) → length (listingOf page) ≤ 36 * 65

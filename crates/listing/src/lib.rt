@@ -7,6 +7,7 @@ ghost use mathlib.Core.List.{_++_};
 ghost use Prim.Native.Nat.{_<_};
 ghost use lib.ListN.{length};
 ghost use Rattle.page.specs.Page.{pageFits, bundlesIn};
+ghost use Rattle.platform.specs.Programs.{defaultProgram};
 ghost use Rattle.count.specs.Count.{countOf};
 ghost use Rattle.text.specs.Room.{writtenOf, placed};
 ghost use Rattle.text.specs.Text.{Puts};
@@ -15,18 +16,18 @@ ghost use Rattle.listing.specs.Listing.{lineOf, bundleLines, listingOf};
 
 // Bundle k of a page that is accepted.
 fn put_bundle(text: &mut [u8], at: usize, page: &[u8], k: u32, count: u32) -> usize
-    requires { ⌜ (pageFits (now page) ≡ true) × (count ≡ countOf (now page)) × (k < bundlesIn (now page)) ⌝ }
+    requires { ⌜ (pageFits (now page) ≡ true) × (count ≡ countOf (defaultProgram (now page))) × (k < bundlesIn (now page)) ⌝ }
     ensures { λ end. ⌜ Puts (now (text .entry)) at (lineOf (now (page .entry)) k) end (now (text .exit)) ⌝ }
 {
     let h = page::halves_of(page, k);
-    let read = bundle::read_bundle(page, k);
+    let read = bundle::read_bundle(page, platform::default_platform(), k);
     let largest = read.largest;
     lister_lines::bundle_line(text, at, k, h.first, h.second, k < count, largest)
 }
 
 // All of them, behind the head.
 fn put_page(text: &mut [u8], page: &[u8], count: u32) -> usize
-    requires { ⌜ (pageFits (now page) ≡ true) × (count ≡ countOf (now page)) ⌝ }
+    requires { ⌜ (pageFits (now page) ≡ true) × (count ≡ countOf (defaultProgram (now page))) ⌝ }
     ensures { λ end. ⌜ Puts (now (text .entry)) 0 (headText (bundlesIn (now (page .entry))) count
         ++ bundleLines (now (page .entry)) 0 (bundlesIn (now (page .entry)))) end (now (text .exit)) ⌝ }
 {
@@ -43,7 +44,7 @@ fn put_page(text: &mut [u8], page: &[u8], count: u32) -> usize
 fn put_listing(text: &mut [u8], page: &[u8]) -> usize
     ensures { λ end. ⌜ Puts (now (text .entry)) 0 (listingOf (now (page .entry))) end (now (text .exit)) ⌝ }
 {
-    let counted = count::count(page);
+    let counted = count::count(page, platform::default_platform());
     let verdict = counted.verdict;
     match verdict {
         Verdict::Refused(refusal) => refusal_line::put(text, 0, refusal),

@@ -4,11 +4,12 @@ use mathlib.Core.Bool.{Bool, not, _&&_, _||_, cond}
 use mathlib.Core.List.{List}
 use lib.Dec.{eqb, ltb}
 use Rattle.page.specs.Page.{bundlesIn, firstOf, secondOf}
+use Rattle.platform.specs.Programs.{Program}
 use Rattle.isa.specs.ListedEncodings.{opens32, decode16Of, decode32Of}
 use Rattle.isa.specs.declared.Instruction.{Instruction}
 use Rattle.isa.specs.declared.Instruction.the-variants.{Unlisted}
 use Rattle.bundle.specs.Flow.{terminator}
-use Rattle.count.specs.Count.{countPage}
+use Rattle.count.specs.Count.{countProgram}
 
 -- an even place is the first half of its bundle, an odd one the second
 abbrev pub isEven : ℕ → Bool
@@ -18,10 +19,14 @@ isEven place = eqb (place % 2) 0
 unfoldable pub standsIn : Bool → ℕ → ℕ → Instruction
 standsIn even first second = cond (opens32 first) (cond even (decode32Of first second) Unlisted) (decode16Of (cond even first second))
 
--- past the page nothing stands
-unfoldable pub instructionAt : List ℕ → ℕ → Instruction
-instructionAt page place =
+-- at a place of a page; past the page nothing stands
+unfoldable pub standsAt : List ℕ → ℕ → Instruction
+standsAt page place =
     cond (ltb (place / 2) (bundlesIn page)) (standsIn (isEven place) (firstOf page (place / 2)) (secondOf page (place / 2))) Unlisted
+
+-- the instruction at a place of a program
+abbrev pub instructionAt : Program → ℕ → Instruction
+instructionAt program place = standsAt (program .page) place
 
 -- the place behind an instruction of 32 or 16 bits
 unfoldable pub following : List ℕ → ℕ → ℕ
@@ -30,11 +35,11 @@ following page place = place + cond (opens32 (firstOf page (place / 2))) 2 1
 -- ---- fit places
 
 -- of a bundle's halfwords: two 16-bit instructions whose first is no terminator
-unfoldable pub secondFits : List ℕ → ℕ → ℕ → Bool
-secondFits page first second = not (opens32 first) && not (opens32 second) && not (terminator page (decode16Of first))
+unfoldable pub secondFits : Program → ℕ → ℕ → Bool
+secondFits program first second = not (opens32 first) && not (opens32 second) && not (terminator program (decode16Of first))
 
 -- the build paper's fit place: its bundle lies below the count; an odd place also needs such a bundle
-unfoldable pub fitPlace : List ℕ → ℕ → Bool
-fitPlace page place =
-    ltb (place / 2) (countPage page .count)
-    && (isEven place || secondFits page (firstOf page (place / 2)) (secondOf page (place / 2)))
+unfoldable pub fitPlace : Program → ℕ → Bool
+fitPlace program place =
+    ltb (place / 2) (countProgram program .count)
+    && (isEven place || secondFits program (firstOf (program .page) (place / 2)) (secondOf (program .page) (place / 2)))

@@ -1,7 +1,9 @@
 // What stands at a place, and whether the place is fit.
 ghost use mathlib.Core.Path.{_≡_};
-ghost use Rattle.place.specs.Places.{standsIn, instructionAt, following, secondFits, fitPlace};
+ghost use Rattle.platform.specs.Programs.{programOf};
+ghost use Rattle.place.specs.Places.{standsIn, standsAt, following, secondFits, fitPlace};
 use isa::Instruction;
+use platform::Platform;
 
 // Of a bundle's halfwords.
 fn stands_in(even: bool, first: u16, second: u16) -> Instruction
@@ -20,8 +22,8 @@ fn stands_in(even: bool, first: u16, second: u16) -> Instruction
     }
 }
 
-pub fn instruction_at(page: &[u8], place: u16) -> Instruction
-    ensures { λ i. ⌜ i ≡ instructionAt (now (page .entry)) place ⌝ }
+pub fn stands_at(page: &[u8], place: u16) -> Instruction
+    ensures { λ i. ⌜ i ≡ standsAt (now (page .entry)) place ⌝ }
 {
     let k = (place / 2) as u32;
     if (k as usize) < page.len() / 4 {
@@ -46,8 +48,8 @@ pub fn next_place(page: &[u8], place: u16) -> u32
 }
 
 // Of a bundle's halfwords: the second is fit, if the bundle lies below the count.
-fn second_fits(page: &[u8], leading: u16, second: u16) -> bool
-    ensures { λ t. ⌜ t ≡ secondFits (now (page .entry)) leading second ⌝ }
+fn second_fits(page: &[u8], platform: Platform, leading: u16, second: u16) -> bool
+    ensures { λ t. ⌜ t ≡ secondFits (programOf (now (page .entry)) platform) leading second ⌝ }
 {
     if isa::opens_32(leading) {
         return false;
@@ -55,14 +57,14 @@ fn second_fits(page: &[u8], leading: u16, second: u16) -> bool
     if isa::opens_32(second) {
         return false;
     }
-    !bundle::is_terminator(page, isa16::decode16(leading))
+    !bundle::is_terminator(page, platform, isa16::decode16(leading))
 }
 
-pub fn is_fit(page: &[u8], place: u16) -> bool
-    ensures { λ t. ⌜ t ≡ fitPlace (now (page .entry)) place ⌝ }
+pub fn is_fit(page: &[u8], platform: Platform, place: u16) -> bool
+    ensures { λ t. ⌜ t ≡ fitPlace (programOf (now (page .entry)) platform) place ⌝ }
 {
     let k = (place / 2) as u32;
-    let counted = count::count(page);
+    let counted = count::count(page, platform);
     if k >= counted.count {
         return false;
     }
@@ -70,5 +72,5 @@ pub fn is_fit(page: &[u8], place: u16) -> bool
         return true;
     }
     let h = page::halves_of(page, k);
-    second_fits(page, h.first, h.second)
+    second_fits(page, platform, h.first, h.second)
 }

@@ -1,11 +1,14 @@
 -- Services: what DFxx means by its low byte and, for 01-7F, by the literal word at that bundle number.
 use Prim.Native.Nat.{ℕ, _+_, _*_, _/_, _%_, _^_}
-use mathlib.Core.Bool.{Bool, cond, _&&_}
+use mathlib.Core.Bool.{Bool, false, cond, _&&_}
 use mathlib.Core.List.{List, [], _∷_}
 use lib.Dec.{ltb, leb}
 use lib.ListN.{getD}
 use Rattle.bits.specs.Fields.{bits, bit}
 use Rattle.page.specs.Page.{bundlesIn, wordAt}
+use Rattle.platform.specs.Platforms.{neverReturns}
+use Rattle.platform.specs.Programs.{Program}
+use Rattle.platform.specs.declared.Platform.{Platform}
 use Rattle.service.specs.declared.Ending.{Ending}
 use Rattle.service.specs.declared.Ending.the-variants.{GoesOn, Exit, LastExit}
 use Rattle.service.specs.declared.Ending.the-variants as ending
@@ -82,7 +85,7 @@ byLowByte n meant =
 unfoldable pub serviceOf : List ℕ → ℕ → Service
 serviceOf page n = byLowByte n (literalService page n)
 
--- ---- exits and terminators: every service that is a terminator is an exit
+-- ---- the build paper's exits and terminators: every service that is a terminator is an exit
 
 abbrev pub endingOf : Service → Ending
 endingOf Return = LastExit
@@ -102,3 +105,33 @@ endingOf Breakpoint = Exit
 endingOf (CallRegister n) = Exit
 endingOf (TailCallRegister n) = LastExit
 endingOf Bad = ending.Bad
+
+-- ---- in a program
+
+-- a direct syscall that the host says never returns, and no other service
+abbrev pub lastSyscall : Platform → Service → Bool
+lastSyscall platform Return = false
+lastSyscall platform (Call a n) = false
+lastSyscall platform (TailCall a n) = false
+lastSyscall platform (Syscall n i) = false
+lastSyscall platform (TailSyscall n i) = false
+lastSyscall platform (LongBranch a) = false
+lastSyscall platform Preload = false
+lastSyscall platform (SetBase a) = false
+lastSyscall platform (StoreAtSp t a) = false
+lastSyscall platform (LoadAtSp t a) = false
+lastSyscall platform (LowerSp a) = false
+lastSyscall platform (DirectSyscall n) = neverReturns platform n
+lastSyscall platform (Validate n) = false
+lastSyscall platform Breakpoint = false
+lastSyscall platform (CallRegister n) = false
+lastSyscall platform (TailCallRegister n) = false
+lastSyscall platform Bad = false
+
+-- over the table above, such a syscall is a terminator, and an exit as before
+abbrev pub endingOn : Platform → Service → Ending
+endingOn platform s = cond (lastSyscall platform s) LastExit (endingOf s)
+
+-- of the service with a low byte
+abbrev pub endingIn : Program → ℕ → Ending
+endingIn program n = endingOn (program .platform) (serviceOf (program .page) n)

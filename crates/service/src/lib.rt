@@ -1,6 +1,8 @@
 // What a service halfword means, for the reader and the machine alike.
 ghost use mathlib.Core.Path.{_≡_};
-ghost use Rattle.service.specs.Services.{endingOf, literalOf, callOf, syscallOf, addressOperationOf, literalService, byLowByte, serviceOf};
+ghost use Rattle.platform.specs.Programs.{programOf};
+ghost use Rattle.service.specs.Services.{endingOf, lastSyscall, endingOn, endingIn, literalOf, callOf, syscallOf, addressOperationOf, literalService, byLowByte, serviceOf};
+use platform::Platform;
 
 pub enum Service {
     Return,
@@ -38,7 +40,8 @@ pub enum Ending {
     Bad,
 }
 
-pub fn ending_of(s: Service) -> Ending
+// By the build paper's table.
+fn ending_of(s: Service) -> Ending
     ensures { λ r. ⌜ r ≡ endingOf s ⌝ }
 {
     match s {
@@ -189,4 +192,49 @@ pub fn service_of(page: &[u8], n: u8) -> Service
     } else {
         by_low_byte(n, Service::Bad)
     }
+}
+
+// ---- in a program
+
+// A direct syscall that never returns.
+fn is_last_syscall(platform: Platform, s: Service) -> bool
+    ensures { λ t. ⌜ t ≡ lastSyscall platform s ⌝ }
+{
+    match s {
+        Service::Return => false,
+        Service::Call(_, _) => false,
+        Service::TailCall(_, _) => false,
+        Service::Syscall(_, _) => false,
+        Service::TailSyscall(_, _) => false,
+        Service::LongBranch(_) => false,
+        Service::Preload => false,
+        Service::SetBase(_) => false,
+        Service::StoreAtSp(_, _) => false,
+        Service::LoadAtSp(_, _) => false,
+        Service::LowerSp(_) => false,
+        Service::DirectSyscall(n) => platform::never_returns(platform, n),
+        Service::Validate(_) => false,
+        Service::Breakpoint => false,
+        Service::CallRegister(_) => false,
+        Service::TailCallRegister(_) => false,
+        Service::Bad => false,
+    }
+}
+
+// The same on a platform.
+pub fn ending_on(platform: Platform, s: Service) -> Ending
+    ensures { λ r. ⌜ r ≡ endingOn platform s ⌝ }
+{
+    if is_last_syscall(platform, s) {
+        Ending::LastExit
+    } else {
+        ending_of(s)
+    }
+}
+
+// How the flow goes on at the service with the low byte n.
+pub fn ending_in(page: &[u8], platform: Platform, n: u8) -> Ending
+    ensures { λ r. ⌜ r ≡ endingIn (programOf (now (page .entry)) platform) n ⌝ }
+{
+    ending_on(platform, service_of(page, n))
 }

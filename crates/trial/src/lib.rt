@@ -11,7 +11,14 @@ pub fn try_page(page: &[u8], room: &mut [u8]) -> Written
         × (now (room .exit) ≡ placed (trialOf (now (page .entry))) (now (room .entry))) ⌝ }
 {
     let mut ram = [0u8; 32768];
-    let answer = machine::run(page, &mut ram, b"", state::fresh_record(), 100_000);
+    let answer = machine::run(
+        page,
+        platform::default_platform(),
+        &mut ram,
+        b"",
+        state::fresh_record(),
+        100_000,
+    );
     let stop = answer.stop;
     let after = answer.after;
     transcript::write(stop, answer.steps, after, room)

@@ -6,7 +6,7 @@ use Rattle.bits.proofs.field.Statement.{statement}
 use Rattle.bits.proofs.field.Tie as tie
 
 returns : tie.Need-returns
-returns c = no-field (c .before .args .x) (c .before .args .lo) (c .before .args .n) (omega arith) (omega arith)
+returns c = no-field 32 (c .before .args .x) (c .before .args .lo) (c .before .args .n) (omega arith) (omega arith)
 
 returns-2 : tie.Need-returns-2
 returns-2 c = whole-field (c .before .before .args .x) (c .before .before .args .lo) (c .before .before .args .n) (omega arith) (omega arith)

@@ -1,6 +1,4 @@
 use mathlib.Core.Path.{ap, _∙_}
-use Rattle.service.specs.Services.{endingOf}
-use Rattle.service.specs.declared.Service.{Service}
 use Rattle.bundle.specs.Flow.{jumpTo, serviceJump}
 use borrow.Author.Needs.{needs}
 use Rattle.bundle.proofs.jump_of.Statement.{statement}
@@ -19,7 +17,7 @@ returns-6 : tie.Need-returns-6
 returns-6 c = rw (c .before .before .before .i4 .given .1) (c .jump-to4 .ensures ∙ ap jumpTo (c .before .branch-target .ensures))
 
 returns-7 : tie.Need-returns-7
-returns-7 c = rw (c .before .before .before .i5 .given .1) (c .service-jump .ensures ∙ ap (λ (s : Service). serviceJump (endingOf s)) (c .before .service-of .ensures))
+returns-7 c = rw (c .before .before .before .i5 .given .1) (c .service-jump .ensures ∙ ap serviceJump (c .before .ending-in .ensures))
 
 pub jump-of-spec : {M : Type 1} → statement M
 jump-of-spec = tie.close (tie.spec (λ c. search needs) (λ c. search needs) (λ c. search needs)
