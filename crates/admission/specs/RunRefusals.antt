@@ -6,6 +6,7 @@ use lib.Dec.{eqb}
 use lib.ListN.{length}
 use Rattle.refusal.specs.Refusals.{Decision, Rule, rule, decision}
 use Rattle.page.specs.Page.{pageRule}
+use Rattle.platform.specs.Programs.{Setting}
 use Rattle.state.specs.Record.{fitRecord}
 use Rattle.state.specs.Validation.{externalRule}
 use Rattle.state.specs.declared.Record.{Record}
@@ -15,11 +16,12 @@ use Rattle.place.specs.Places.{fitPlace}
 abbrev pub areaRules : List ℕ → List ℕ → List ℕ → List Rule
 areaRules page external ram = pageRule page ∷ rule (not (eqb (length ram) 32768)) 2 [] ∷ externalRule (length external) ∷ []
 
-abbrev pub recordRules : List ℕ → List ℕ → Record → List Rule
-recordRules page external r = rule (not (fitRecord r (length external))) 4 [] ∷ rule (not (fitPlace page (r .place))) 5 [] ∷ []
+abbrev pub recordRules : Setting → Record → List Rule
+recordRules setting r =
+    rule (not (fitRecord r (length (setting .external)))) 4 [] ∷ rule (not (fitPlace (setting .program) (r .place))) 5 [] ∷ []
 
-abbrev pub runRules : List ℕ → List ℕ → Record → List ℕ → List Rule
-runRules page external r ram = areaRules page external ram ++ recordRules page external r
+abbrev pub runRules : Setting → Record → List ℕ → List Rule
+runRules setting r ram = areaRules (setting .program .page) (setting .external) ram ++ recordRules setting r
 
-unfoldable pub runDecision : List ℕ → List ℕ → Record → List ℕ → Decision
-runDecision page external r ram = decision (runRules page external r ram)
+unfoldable pub runDecision : Setting → Record → List ℕ → Decision
+runDecision setting r ram = decision (runRules setting r ram)

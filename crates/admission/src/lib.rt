@@ -1,7 +1,9 @@
 // What a step and a run refuse.
 ghost use mathlib.Core.Path.{_≡_};
+ghost use Rattle.platform.specs.Programs.{programOf, settingOf};
 ghost use Rattle.refusal.specs.Refusals.{decision, decisionOf};
 ghost use Rattle.admission.specs.RunRefusals.{areaRules, recordRules, runDecision};
+use platform::Platform;
 use refusal::Refusal;
 use refusal::Verdict;
 use state::Record;
@@ -23,24 +25,30 @@ pub fn of_areas(page: &[u8], ram: &[u8], external: &[u8]) -> Verdict
 }
 
 // The record is fit, and so is its place.
-fn of_record(page: &[u8], external: &[u8], r: Record) -> Verdict
-    ensures { λ v. ⌜ decisionOf v ≡ decision (recordRules (now (page .entry)) (now (external .entry)) r) ⌝ }
+fn of_record(page: &[u8], platform: Platform, external: &[u8], r: Record) -> Verdict
+    ensures { λ v. ⌜ decisionOf v ≡ decision (recordRules (settingOf (programOf (now (page .entry)) platform) (now (external .entry))) r) ⌝ }
 {
     if !state::is_fit(r, external.len()) {
         return Verdict::Refused(Refusal::UnfitRecord);
     }
-    if !place::is_fit(page, r.place) {
+    if !place::is_fit(page, platform, r.place) {
         return Verdict::Refused(Refusal::UnfitPlace);
     }
     Verdict::Accepted
 }
 
-pub fn verdict_of(page: &[u8], ram: &[u8], external: &[u8], r: Record) -> Verdict
-    ensures { λ v. ⌜ decisionOf v ≡ runDecision (now (page .entry)) (now (external .entry)) r (now (ram .entry)) ⌝ }
+pub fn verdict_of(
+    page: &[u8],
+    platform: Platform,
+    ram: &[u8],
+    external: &[u8],
+    r: Record,
+) -> Verdict
+    ensures { λ v. ⌜ decisionOf v ≡ runDecision (settingOf (programOf (now (page .entry)) platform) (now (external .entry))) r (now (ram .entry)) ⌝ }
 {
     let areas = of_areas(page, ram, external);
     match areas {
         Verdict::Refused(why) => Verdict::Refused(why),
-        Verdict::Accepted => of_record(page, external, r),
+        Verdict::Accepted => of_record(page, platform, external, r),
     }
 }

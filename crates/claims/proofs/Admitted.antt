@@ -8,13 +8,14 @@ use mathlib.Core.Path.{_≡_, refl}
 use lib.ListN.{length}
 use borrow.Author.Tests.{le-ltb, eq-eqb}
 use Rattle.refusal.specs.Refusals.{accepted, refused}
+use Rattle.platform.specs.Programs.{Setting}
 use Rattle.count.specs.Count.{countOf}
 use Rattle.state.specs.Record.{freshRecord, withPlace, fitRecord}
 use Rattle.place.specs.Places.{fitPlace}
 use Rattle.instruction.proofs.FitPlaces.{bundle-fits}
 use Rattle.admission.specs.RunRefusals.{runDecision}
 use Rattle.admission.proofs.Theorems.{accepts}
-use Rattle.claims.specs.Demand3.{Setting, Allowed, FitStart}
+use Rattle.claims.specs.Demand3.{Allowed, FitStart}
 
 fresh-fits : (k external : ℕ) → fitRecord (withPlace freshRecord k) external ≡ true
 unfolding fitRecord withPlace
@@ -22,23 +23,23 @@ fresh-fits k external = refl
 
 -- a series may start from the fresh record at any bundle below the count, with any RAM of its size
 pub fresh-starts : (setting : Setting) → Allowed setting → (ram : List ℕ) → length ram ≡ 32768
-    → (k : ℕ) → k < countOf (setting .page) → FitStart setting (record { rec = withPlace freshRecord (2 * k); ram = ram })
+    → (k : ℕ) → k < countOf (setting .program) → FitStart setting (record { rec = withPlace freshRecord (2 * k); ram = ram })
 unfolding withPlace
 fresh-starts setting allowed ram n k l = record {
   recordFits = fresh-fits (2 * k) (length (setting .external));
-  placeFits = bundle-fits (setting .page) (allowed .pageAllowed) k l;
+  placeFits = bundle-fits (setting .program) (allowed .pageAllowed) k l;
   ramFits = n;
 }
 
 -- and so a call from there is not refused
 pub admitted : (setting : Setting) → Allowed setting → (ram : List ℕ) → length ram ≡ 32768
-    → (k : ℕ) → k < countOf (setting .page) → runDecision (setting .page) (setting .external) (withPlace freshRecord (2 * k)) ram ≡ accepted
+    → (k : ℕ) → k < countOf (setting .program) → runDecision setting (withPlace freshRecord (2 * k)) ram ≡ accepted
 admitted setting allowed ram n k l =
     let f = fresh-starts setting allowed ram n k l in
-    accepts _ _ _ ram (allowed .pageAllowed) n (allowed .externalAllowed) (f .recordFits) (f .placeFits)
+    accepts setting _ ram (allowed .pageAllowed) n (allowed .externalAllowed) (f .recordFits) (f .placeFits)
 
 pub none-admitted : (setting : Setting) → Allowed setting → (ram : List ℕ) → length ram ≡ 32768
-    → countOf (setting .page) ≡ 0 → runDecision (setting .page) (setting .external) freshRecord ram ≡ refused 5 []
+    → countOf (setting .program) ≡ 0 → runDecision setting freshRecord ram ≡ refused 5 []
 unfolding runDecision fitRecord fitPlace
 none-admitted setting allowed ram n z =
-    rw (allowed .pageAllowed, eq-eqb _ _ n, allowed .externalAllowed, le-ltb 0 (countOf (setting .page)) (omega (arith, z)))
+    rw (allowed .pageAllowed, eq-eqb _ _ n, allowed .externalAllowed, le-ltb 0 (countOf (setting .program)) (omega (arith, z)))

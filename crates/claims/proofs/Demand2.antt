@@ -15,6 +15,7 @@ use denote.Triple.Clauses.{AtExit}
 use denote.Ref.{now}
 use Rattle.page.specs.Page.{pageFits, bundlesIn}
 use Rattle.page.proofs.Theorems.{fitting}
+use Rattle.platform.specs.Programs.{Program, programOf}
 use Rattle.prefix.specs.Prefix.{Successors, bad, goes, AllBelow}
 use Rattle.prefix.specs.LargestSuccessor.{largestOf, largestSuccessor}
 use Rattle.prefix.proofs.Theorems.{true-within, largest-within, unique, definition, single-pass-is, iterates-is}
@@ -23,7 +24,7 @@ use Rattle.bundle.specs.Reader.{ReaderAnswer, readBundle, seenRead}
 use Rattle.bundle.proofs.read_bundle
 use Rattle.bundle.proofs.read_bundle.Kinds as read-kinds
 use Rattle.bundle.proofs.read_bundle.Reads as read-reads
-use Rattle.count.specs.Count.{countOf, CountAnswer, countPage, seenCount}
+use Rattle.count.specs.Count.{countOf, CountAnswer, countProgram, seenCount}
 use Rattle.count.proofs.count
 use Rattle.count.proofs.count.Kinds as count-kinds
 use Rattle.count.proofs.count.Reads as count-reads
@@ -31,21 +32,21 @@ use Rattle.claims.specs.Demand2.{IsCount, Counts, OneOf, Says, Reads}
 
 -- ---- the count
 
-is-count : (page : List ℕ) → pageFits page ≡ true → IsCount page (countOf page)
-is-count page fits =
-    let g = definition (successorsOf page) (bundlesIn page) in
-    let f = fitting page fits in
+is-count : (program : Program) → pageFits (program .page) ≡ true → IsCount program (countOf program)
+is-count program fits =
+    let g = definition (successorsOf program) (bundlesIn (program .page)) in
+    let f = fitting (program .page) fits in
     record {
       greatest = g;
       at-most = omega (arith, g .inside);
-      only = λ n h. unique (successorsOf page) h g;
-      by-single-pass = single-pass-is (successorsOf page) (bundlesIn page);
-      by-iteration = iterates-is (successorsOf page) (bundlesIn page);
+      only = λ n h. unique (successorsOf program) h g;
+      by-single-pass = single-pass-is (successorsOf program) (bundlesIn (program .page));
+      by-iteration = iterates-is (successorsOf program) (bundlesIn (program .page));
     }
 
-counts : (page : List ℕ) (a : CountAnswer) → a ≡ countPage page → Counts page a
-counts page a e = record {
-  allowed = λ fits. rw (e, fits) (refl, is-count page fits);
+counts : (program : Program) (a : CountAnswer) → a ≡ countProgram program → Counts program a
+counts program a e = record {
+  allowed = λ fits. rw (e, fits) (refl, is-count program fits);
   not-allowed = λ fits. rw (e, fits) (refl, refl);
 }
 
@@ -74,26 +75,26 @@ says bad = refl
 says (goes []) = refl
 says (goes (s ∷ ss)) = (s ∷ ss, refl, largest-one s ss, none-above s ss)
 
-reads : (page : List ℕ) (k : ℕ) (a : ReaderAnswer) → a ≡ readBundle page k → Reads page k a
-reads page k a e = record {
-  inside = λ fits l. rw (e, fits, lt-leb (bundlesIn page) k l) (refl, says (successorsOf page k));
-  past = λ fits l. rw (e, fits, le-leb (bundlesIn page) k l) (refl, refl);
+reads : (program : Program) (k : ℕ) (a : ReaderAnswer) → a ≡ readBundle program k → Reads program k a
+reads program k a e = record {
+  inside = λ fits l. rw (e, fits, lt-leb (bundlesIn (program .page)) k l) (refl, says (successorsOf program k));
+  past = λ fits l. rw (e, fits, le-leb (bundlesIn (program .page)) k l) (refl, refl);
   not-allowed = λ fits. rw (e, fits) (refl, refl);
 }
 
 -- ---- the demand
 
 pub record Demand2 : Type 1 where
-  -- every call of `count`: its page, its answer
+  -- every call of `count`: its program, its answer
   pub counted : (κs : Lfts 1) (a : ArgsD count.signature κs) (x : ResD count.signature κs)
-      (s : AtExit (endedOf 1 count-kinds.ps count-kinds.r) κs) → count-reads.Post κs a x s → Counts (now (a .0)) (seenCount x)
-  -- every call of `read_bundle`: its page, the number of its bundle, its answer
+      (s : AtExit (endedOf 1 count-kinds.ps count-kinds.r) κs) → count-reads.Post κs a x s → Counts (programOf (now (a .0)) (a .1 .0)) (seenCount x)
+  -- every call of `read_bundle`: its program, the number of its bundle, its answer
   pub read : (κs : Lfts 1) (a : ArgsD read_bundle.signature κs) (x : ResD read_bundle.signature κs)
       (s : AtExit (endedOf 1 read-kinds.ps read-kinds.r) κs) → read-reads.Post κs a x s
-      → Reads (now (a .0)) (a .1 .0) (seenRead x)
+      → Reads (programOf (now (a .0)) (a .1 .0)) (a .1 .1 .0) (seenRead x)
 
 pub demand2 : Demand2
 demand2 = record {
-  counted = λ κs a x s h. counts (now (a .0)) (seenCount x) h;
-  read = λ κs a x s h. reads (now (a .0)) (a .1 .0) (seenRead x) h;
+  counted = λ κs a x s h. counts (programOf (now (a .0)) (a .1 .0)) (seenCount x) h;
+  read = λ κs a x s h. reads (programOf (now (a .0)) (a .1 .0)) (a .1 .1 .0) (seenRead x) h;
 }

@@ -1,6 +1,7 @@
 -- Demand 3 is met, by every series of the code's calls.
 use mathlib.Core.List.{List}
 use mathlib.Core.Path.{_≡_}
+use Rattle.platform.specs.Programs.{Setting}
 use Rattle.plain.specs.PlainMachine.{Result}
 use Rattle.series.specs.HandedOn.{InSeries}
 use Rattle.series.specs.Machine.{Handed, called}
@@ -10,7 +11,7 @@ use Rattle.series.proofs.Theorems as series
 use Rattle.instruction.specs.Fitness.{Fit}
 use Rattle.instruction.proofs.Kept.{keeps, starts}
 use Rattle.admission.proofs.Theorems.{accepts}
-use Rattle.claims.specs.Demand3.{Setting, Allowed, FitStart, machineOf, CodeCall, ofRun, ofStep, handedTo, gaveBy, machine}
+use Rattle.claims.specs.Demand3.{Allowed, FitStart, machineOf, CodeCall, ofRun, ofStep, handedTo, gaveBy, machine}
 
 -- with any calls that give what the plain machine, or the refusal, gives
 pub demand3-of : (Call : Type 0) (handed : Call → Handed Setting) (gave : Call → Result)
@@ -19,14 +20,12 @@ pub demand3-of : (Call : Type 0) (handed : Call → Handed Setting) (gave : Call
     → (calls : List (InSeries Call)) → Series (machineOf Call handed gave setting) calls start
     → Demand3 (machineOf Call handed gave setting) calls start
 demand3-of Call handed gave meets setting allowed start fit calls h =
-    let page = setting .page in
-    let external = setting .external in
-    series.demand3 (machineOf Call handed gave setting) (Fit page external)
+    series.demand3 (machineOf Call handed gave setting) (Fit setting)
     (record {
-      keeps = keeps page external (allowed .pageAllowed);
-      starts = starts page external (allowed .pageAllowed);
+      keeps = keeps setting (allowed .pageAllowed);
+      starts = starts setting (allowed .pageAllowed);
       accepts = λ budget r ram f.
-          accepts page external r ram (allowed .pageAllowed) (f .ramFits) (allowed .externalAllowed) (f .recordFits) (f .placeFits);
+          accepts setting r ram (allowed .pageAllowed) (f .ramFits) (allowed .externalAllowed) (f .recordFits) (f .placeFits);
       meets = meets setting;
     })
     calls start fit h

@@ -10,12 +10,12 @@ use Rattle.bundle.specs.Flow.{flowOf}
 use Rattle.bundle.specs.Successors.{successorsOf}
 use Rattle.state.specs.Record.{withRegister, withFlags, withPlace}
 use Rattle.writing.specs.Writes.{applied}
-use Rattle.place.specs.Places.{standsIn, instructionAt, following}
+use Rattle.place.specs.Places.{standsIn, standsAt, following}
 use Rattle.instruction.specs.Instructions.{endAt, branchTo, branchIf, effectOf, instructionOf}
 use Rattle.claims.specs.Examples.{Starred}
 
 pub starred : Starred
-unfolding greatestClosed allWithin successorsOf flowOf bundleAt serviceOf byLowByte literalService literalOf callOf syscallOf addressOperationOf halfwordAt wordAt pageFits opens32 decodeBy matches instructionOf instructionAt standsIn following effectOf endAt branchIf branchTo applied withRegister withFlags withPlace
+unfolding greatestClosed allWithin successorsOf flowOf bundleAt serviceOf byLowByte literalService literalOf callOf syscallOf addressOperationOf halfwordAt wordAt pageFits opens32 decodeBy matches instructionOf standsAt standsIn following effectOf endAt branchIf branchTo applied withRegister withFlags withPlace
 starred = record {
   empty = refl;
   returns = refl;

@@ -6,6 +6,7 @@ use mathlib.Core.List.{List, [], _∷_}
 use mathlib.Core.Logic.{_⊎_}
 use Rattle.refusal.specs.Refusals.{accepted, refused}
 use Rattle.page.specs.Page.{pageFits, bundlesIn}
+use Rattle.platform.specs.Programs.{Program}
 use Rattle.prefix.specs.Prefix.{Successors, bad, goes, AllBelow, Greatest, singlePass, iterated}
 use Rattle.prefix.specs.LargestSuccessor.{Reading, badBundle, noSuccessor, largest}
 use Rattle.bundle.specs.Successors.{successorsOf}
@@ -14,22 +15,22 @@ use Rattle.count.specs.Count.{CountAnswer}
 
 -- ---- the count
 
--- what is claimed of a number, for a page
-pub record IsCount (page : List ℕ) (m : ℕ) : Type 0 where
+-- what is claimed of a number, for a program
+pub record IsCount (program : Program) (m : ℕ) : Type 0 where
   -- every bundle below it is allowed and all its successors lie below it; no larger prefix up to the page's bundles has this
-  pub greatest : Greatest (successorsOf page) (bundlesIn page) m
+  pub greatest : Greatest (successorsOf program) (bundlesIn (program .page)) m
   -- it lies from 0 to 64
   pub at-most : m ≤ 64
   -- no other number is so
-  pub only : (n : ℕ) → Greatest (successorsOf page) (bundlesIn page) n → n ≡ m
+  pub only : (n : ℕ) → Greatest (successorsOf program) (bundlesIn (program .page)) n → n ≡ m
   -- document 000's single pass and its iterated form give it
-  pub by-single-pass : singlePass (successorsOf page) (bundlesIn page) ≡ m
-  pub by-iteration : iterated (successorsOf page) (bundlesIn page) ≡ m
+  pub by-single-pass : singlePass (successorsOf program) (bundlesIn (program .page)) ≡ m
+  pub by-iteration : iterated (successorsOf program) (bundlesIn (program .page)) ≡ m
 
 -- of an answer: a page of an allowed length is accepted and counted; any other is refused with 1, and its count is 0
-pub record Counts (page : List ℕ) (a : CountAnswer) : Type 0 where
-  pub allowed : pageFits page ≡ true → (a .decision ≡ accepted) × IsCount page (a .count)
-  pub not-allowed : pageFits page ≡ false → (a .decision ≡ refused 1 []) × (a .count ≡ 0)
+pub record Counts (program : Program) (a : CountAnswer) : Type 0 where
+  pub allowed : pageFits (program .page) ≡ true → (a .decision ≡ accepted) × IsCount program (a .count)
+  pub not-allowed : pageFits (program .page) ≡ false → (a .decision ≡ refused 1 []) × (a .count ≡ 0)
 
 -- ---- the reader
 
@@ -46,7 +47,7 @@ Says (largest n) x = (ss : List ℕ) × (x ≡ goes ss) × OneOf n ss × AllBelo
 
 -- of an answer: a bundle of a page of an allowed length is read; one past the page is refused with 8, any of another page with 1,
 -- and is bad
-pub record Reads (page : List ℕ) (k : ℕ) (a : ReaderAnswer) : Type 0 where
-  pub inside : pageFits page ≡ true → k < bundlesIn page → (a .decision ≡ accepted) × Says (a .reading) (successorsOf page k)
-  pub past : pageFits page ≡ true → bundlesIn page ≤ k → (a .decision ≡ refused 8 []) × (a .reading ≡ badBundle)
-  pub not-allowed : pageFits page ≡ false → (a .decision ≡ refused 1 []) × (a .reading ≡ badBundle)
+pub record Reads (program : Program) (k : ℕ) (a : ReaderAnswer) : Type 0 where
+  pub inside : pageFits (program .page) ≡ true → k < bundlesIn (program .page) → (a .decision ≡ accepted) × Says (a .reading) (successorsOf program k)
+  pub past : pageFits (program .page) ≡ true → bundlesIn (program .page) ≤ k → (a .decision ≡ refused 8 []) × (a .reading ≡ badBundle)
+  pub not-allowed : pageFits (program .page) ≡ false → (a .decision ≡ refused 1 []) × (a .reading ≡ badBundle)

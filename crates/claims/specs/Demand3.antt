@@ -1,15 +1,14 @@
 -- What demand 3 speaks of: the machine of the build paper, with the code's own calls.
-use Prim.Native.Nat.{ℕ}
 use contract.Lifetimes.{Lfts}
 use borrow.Fn.World.{ArgsD, ResD}
 use borrow.Fn.Kinds.{endedOf}
 use denote.Triple.Clauses.{AtExit}
 use denote.Ref.{now}
 use mathlib.Core.Bool.{true}
-use mathlib.Core.List.{List}
 use mathlib.Core.Path.{_≡_}
 use lib.ListN.{length}
 use Rattle.page.specs.Page.{pageFits}
+use Rattle.platform.specs.Programs.{Setting, programOf, settingOf}
 use Rattle.state.specs.Validation.{externalFits}
 use Rattle.plain.specs.PlainMachine.{Result}
 use Rattle.series.specs.Machine.{Handed, Machine}
@@ -25,29 +24,24 @@ use Rattle.machine.proofs.step as step
 use Rattle.machine.proofs.step.Kinds as step-kinds
 use Rattle.machine.proofs.step.Reads as step-reads
 
--- what a call takes beside its budget, the record and RAM
-pub record Setting : Type 0 where
-  pub page : List ℕ
-  pub external : List ℕ
-
--- none of it refused by the papers
+-- a setting, none of which the papers refuse
 pub record Allowed (s : Setting) : Type 0 where
-  pub pageAllowed : pageFits (s .page) ≡ true
+  pub pageAllowed : pageFits (s .program .page) ≡ true
   pub externalAllowed : externalFits (length (s .external)) ≡ true
 
 -- what a series may start from: a fit record with a fit place, and RAM of its size
 abbrev pub FitStart : Setting → State → Type 0
-FitStart setting start = Fit (setting .page) (setting .external) (start .rec) (start .ram)
+FitStart setting start = Fit setting (start .rec) (start .ram)
 
 -- the build paper's machine, with any calls, of which a series' own get this setting
 abbrev pub machineOf : (Call : Type 0) → (Call → Handed Setting) → (Call → Result) → Setting → Machine
 machineOf Call handed gave setting = record {
   Setting = Setting;
   setting = setting;
-  instruction = λ s. instructionOf (s .page) (s .external);
-  decision = λ s. runDecision (s .page) (s .external);
-  Starts = Starts (setting .page);
-  ServiceAt = ServiceAt (setting .page);
+  instruction = instructionOf;
+  decision = runDecision;
+  Starts = Starts (setting .program);
+  ServiceAt = ServiceAt (setting .program);
   Known = Known;
   Call = Call;
   handed = handed;
@@ -56,8 +50,8 @@ machineOf Call handed gave setting = record {
 
 -- ---- the code's calls
 
--- a call of `run` or `step` as the checker reads it: the arguments (page, RAM, external data, record and, for `run`, the budget),
--- the answer, what is lent at exit, and all that is known of them: the contract
+-- a call of `run` or `step` as the checker reads it: the arguments (page, platform, RAM, external data, record and, for `run`, the
+-- budget), the answer, what is lent at exit, and all that is known of them: the contract
 pub data CodeCall : Type 0 where
   ofRun : (κs : Lfts 3) (a : ArgsD run.signature κs) (x : ResD run.signature κs) (s : AtExit (endedOf 3 run-kinds.ps run-kinds.r) κs)
       → run-reads.Post κs a x s → CodeCall
@@ -66,21 +60,21 @@ pub data CodeCall : Type 0 where
 
 abbrev pub handedTo : CodeCall → Handed Setting
 handedTo (ofRun κs a x s contract) = record {
-  setting = record { page = now (a .0); external = now (a .1 .1 .0) };
-  budget = a .1 .1 .1 .1 .0;
-  rec = a .1 .1 .1 .0;
-  ram = now (a .1 .0);
+  setting = settingOf (programOf (now (a .0)) (a .1 .0)) (now (a .1 .1 .1 .0));
+  budget = a .1 .1 .1 .1 .1 .0;
+  rec = a .1 .1 .1 .1 .0;
+  ram = now (a .1 .1 .0);
 }
 handedTo (ofStep κs a x s contract) = record {
-  setting = record { page = now (a .0); external = now (a .1 .1 .0) };
+  setting = settingOf (programOf (now (a .0)) (a .1 .0)) (now (a .1 .1 .1 .0));
   budget = 1;
-  rec = a .1 .1 .1 .0;
-  ram = now (a .1 .0);
+  rec = a .1 .1 .1 .1 .0;
+  ram = now (a .1 .1 .0);
 }
 
 abbrev pub gaveBy : CodeCall → Result
-gaveBy (ofRun κs a x s contract) = seen x (now (s .1 .0))
-gaveBy (ofStep κs a x s contract) = seen x (now (s .1 .0))
+gaveBy (ofRun κs a x s contract) = seen x (now (s .1 .1 .0))
+gaveBy (ofStep κs a x s contract) = seen x (now (s .1 .1 .0))
 
 -- the machine with the code's own calls
 abbrev pub machine : Setting → Machine

@@ -2,3 +2,4 @@ pub mod Pages
 pub mod Demand2
 pub mod Examples
 pub mod Demand3
+pub mod EmptySet

@@ -11,9 +11,10 @@ use Rattle.laws.proofs.Tests.{both}
 use Rattle.refusal.specs.Refusals.{Decision, accepted, refused}
 use Rattle.page.specs.Page.{pageFits, bundlesIn}
 use Rattle.page.proofs.Theorems.{fitting}
+use Rattle.platform.specs.Programs.{Program, Setting}
 use Rattle.prefix.proofs.Theorems.{definition}
 use Rattle.bundle.specs.Successors.{successorsOf}
-use Rattle.count.specs.Count.{countOf, countPage}
+use Rattle.count.specs.Count.{countOf, countProgram}
 use Rattle.state.specs.Record.{offsetOf, spFits, baseFits, fitRecord}
 use Rattle.state.specs.Validation.{externalFits}
 use Rattle.state.specs.declared.Base.{Base}
@@ -78,51 +79,51 @@ external-below : (external : ℕ) → externalFits external ≡ true → externa
 unfolding externalFits
 external-below external h = omega (arith, leb-true external 16777216 (both (leb external 16777216) (eqb (external % 256) 0) h .0))
 
-place-below : (page : List ℕ) (place : ℕ) → pageFits page ≡ true → fitPlace page place ≡ true → place < 2 ^ 16
+place-below : (program : Program) (place : ℕ) → pageFits (program .page) ≡ true → fitPlace program place ≡ true → place < 2 ^ 16
 unfolding fitPlace
-place-below page place p h =
-    let counted : countPage page .count ≡ countOf page = rw p in
-    let bundles = fitting page p in
-    let below = ltb-true (place / 2) (countPage page .count) (both (ltb (place / 2) (countPage page .count)) _ h .0) in
-    omega (arith, below, counted, definition (successorsOf page) (bundlesIn page) .inside, bundles)
+place-below program place p h =
+    let counted : countProgram program .count ≡ countOf program = rw p in
+    let bundles = fitting (program .page) p in
+    let below = ltb-true (place / 2) (countProgram program .count) (both (ltb (place / 2) (countProgram program .count)) _ h .0) in
+    omega (arith, below, counted, definition (successorsOf program) (bundlesIn (program .page)) .inside, bundles)
 
-fit-held : (page external : List ℕ) (r : Record) (ram : List ℕ) → pageFits page ≡ true → externalFits (length external) ≡ true
-    → Fit page external r ram → Words r ram → Held r
+fit-held : (setting : Setting) (r : Record) (ram : List ℕ) → pageFits (setting .program .page) ≡ true → externalFits (length (setting .external)) ≡ true
+    → Fit setting r ram → Words r ram → Held r
 unfolding fitRecord
-fit-held page external r ram p e f w =
-    let parts = both (spFits (r .sp)) (baseFits (r .base) (length external)) (f .recordFits) in
+fit-held setting r ram p e f w =
+    let parts = both (spFits (r .sp)) (baseFits (r .base) (length (setting .external))) (f .recordFits) in
     record {
       eight = w .eight;
       words = w .words;
       sp = sp-below (r .sp) (parts .0);
-      offset = base-below (r .base) (length external) (external-below (length external) e) (parts .1);
-      place = place-below page (r .place) p (f .placeFits);
+      offset = base-below (r .base) (length (setting .external)) (external-below (length (setting .external)) e) (parts .1);
+      place = place-below (setting .program) (r .place) p (f .placeFits);
     }
 
 -- ---- a run
 
 -- what is not refused is allowed and fit
-record Accepts (page external : List ℕ) (r : Record) (ram : List ℕ) : Type 0 where
-  allowedPage : pageFits page ≡ true
-  allowedData : externalFits (length external) ≡ true
-  fits : Fit page external r ram
+record Accepts (setting : Setting) (r : Record) (ram : List ℕ) : Type 0 where
+  allowedPage : pageFits (setting .program .page) ≡ true
+  allowedData : externalFits (length (setting .external)) ≡ true
+  fits : Fit setting r ram
 
-accepted-fits : (page external : List ℕ) (r : Record) (ram : List ℕ) → runDecision page external r ram ≡ accepted → Accepts page external r ram
-accepted-fits page external r ram e =
-    let h = accepted-all page external r ram e in
+accepted-fits : (setting : Setting) (r : Record) (ram : List ℕ) → runDecision setting r ram ≡ accepted → Accepts setting r ram
+accepted-fits setting r ram e =
+    let h = accepted-all setting r ram e in
     record { allowedPage = h .0; allowedData = h .2; fits = record { recordFits = h .3; placeFits = h .4; ramFits = h .1 } }
 
-module _ (page external : List ℕ) (p : Bytes page) (e : Bytes external) (total : ℕ) (r : Record) (ram : List ℕ) (h : Held r) (m : Bytes ram) where
-  pub held-after : Held (runOf page external total r ram .rec)
-  held-after = go (runDecision page external r ram) refl
+module _ (setting : Setting) (p : Bytes (setting .program .page)) (e : Bytes (setting .external)) (total : ℕ) (r : Record) (ram : List ℕ) (h : Held r) (m : Bytes ram) where
+  pub held-after : Held (runOf setting total r ram .rec)
+  held-after = go (runDecision setting r ram) refl
     where
-      go : (v : Decision) → runDecision page external r ram ≡ v → Held (callBy v (instructionOf page external) total r ram .rec)
+      go : (v : Decision) → runDecision setting r ram ≡ v → Held (callBy v (instructionOf setting) total r ram .rec)
       go accepted q =
-          let a = accepted-fits page external r ram q in
-          fit-held page external _ _ (a .allowedPage) (a .allowedData)
-          (run-keeps (instructionOf page external) (Fit page external)
-          (λ s after f. keeps-leaves (Fit page external) (ServiceAt page s) Known (instructionOf page external s after) (keeps page external (a .allowedPage) s after f))
+          let a = accepted-fits setting r ram q in
+          fit-held setting _ _ (a .allowedPage) (a .allowedData)
+          (run-keeps (instructionOf setting) (Fit setting)
+          (λ s after f. keeps-leaves (Fit setting) (ServiceAt (setting .program) s) Known (instructionOf setting s after) (keeps setting (a .allowedPage) s after f))
           total 0 r ram (a .fits))
-          (run-keeps (instructionOf page external) Words (λ s after w. words-kept page external p e s after w)
+          (run-keeps (instructionOf setting) Words (λ s after w. words-kept setting p e s after w)
           total 0 r ram (record { eight = h .eight; words = h .words; bytes = m }))
       go (refused n values) q = h

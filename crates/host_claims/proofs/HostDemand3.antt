@@ -11,7 +11,8 @@ use Rattle.series.specs.HandedOn.{InSeries, own, other, leftBy, leftByAll}
 use Rattle.series.specs.Series.{gaveState, Series}
 use Rattle.series.proofs.Theorems.{stays}
 use Rattle.machine.specs.Runs.{runOf}
-use Rattle.claims.specs.Demand3.{Setting, Allowed, FitStart}
+use Rattle.platform.specs.Programs.{Setting}
+use Rattle.claims.specs.Demand3.{Allowed, FitStart}
 use Rattle.claims.proofs.Demand3.{demand3-of}
 use Rattle.crossing.specs.Numbers.{codeOf, stopNumbers}
 use Rattle.marshbodkin.specs.HostRuns.{noRecordRules, crossing, hostRun}
@@ -24,7 +25,7 @@ use Rattle.host_claims.proofs.Refused.{NoValues, no-values}
 
 -- its contract
 crossed-is : (c : HostCall)
-    → crossedBy c ≡ hostRun (lentTo c .setting .page) (lentTo c .setting .external) (lentTo c .budget) (lentTo c .bytes) (lentTo c .ram)
+    → crossedBy c ≡ hostRun (lentTo c .setting) (lentTo c .budget) (lentTo c .bytes) (lentTo c .ram)
 crossed-is (ofRun κs a x s bytes contract) = contract
 crossed-is (ofStep κs a x s bytes contract) = contract
 
@@ -43,12 +44,12 @@ stop-back (refused n values) h = ap (refused n) (sym h)
 
 module _ (c : RecordCall) where
   abbrev ran : Result
-  ran = runOf (handedRecord c .setting .page) (handedRecord c .setting .external) (handedRecord c .budget) (handedRecord c .rec) (handedRecord c .ram)
+  ran = runOf (handedRecord c .setting) (handedRecord c .budget) (handedRecord c .rec) (handedRecord c .ram)
 
   ran-held : Held (ran .rec)
   ran-held =
       let b = lent-bytes (c .call) in
-      held-after _ _ (b .page) (b .external) (handedRecord c .budget) (handedRecord c .rec) (handedRecord c .ram)
+      held-after (handedRecord c .setting) (b .page) (b .external) (handedRecord c .budget) (handedRecord c .rec) (handedRecord c .ram)
       (record-held (lentTo (c .call) .bytes) (b .bytes)) (b .ram)
 
   crossed-ran : crossedBy (c .call) ≡ crossing ran
@@ -61,11 +62,11 @@ module _ (c : RecordCall) where
   meets : gaveRecord c ≡ ran
   meets =
       rw crossed-ran
-      (λ i. record { stop = stop-back (ran .stop) (no-values _ _ (handedRecord c .budget) (handedRecord c .rec) (handedRecord c .ram)) i; steps = ran .steps; rec = record-kept (ran .rec) ran-held i; ram = ran .ram })
+      (λ i. record { stop = stop-back (ran .stop) (no-values (handedRecord c .setting) (handedRecord c .budget) (handedRecord c .rec) (handedRecord c .ram)) i; steps = ran .steps; rec = record-kept (ran .rec) ran-held i; ram = ran .ram })
 
 keeps-bytes : (c : HostCall) → holdsRecord (lentTo c .bytes) ≡ false → KeepsBytes c
 keeps-bytes c e = record {
-  number = codeOf (decision (noRecordRules (lentTo c .setting .page) (lentTo c .setting .external) (lentTo c .ram)));
+  number = codeOf (decision (noRecordRules (lentTo c .setting .program .page) (lentTo c .setting .external) (lentTo c .ram)));
   gives = crossed-is c ∙ rw e;
 }
 

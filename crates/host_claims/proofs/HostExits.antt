@@ -1,15 +1,15 @@
 -- What a host decodes of a stop at a service is the exit of the page's service.
 use Prim.Native.Nat.{ℕ, _<_}
 use native.Mathlib.Omega.{arith}
-use mathlib.Core.Bool.{Bool, true, false, not, cond, _&&_, true≢false}
+use mathlib.Core.Bool.{Bool, true, false, not, cond, true≢false}
 use mathlib.Core.List.{List}
-use mathlib.Core.Logic.{inl, inr}
+use mathlib.Core.Logic.{inl, inr, ⊎-elim}
 use mathlib.Core.Path.{_≡_, refl, sym, ap, subst, _∙_}
-use lib.Dec.{eqb, leb, ltb}
+use lib.Dec.{eqb, ltb}
 use borrow.Author.Tests.{le-leb}
 use Rattle.page.specs.Page.{bundlesIn, wordAt}
-use Rattle.service.specs.Services.{takesLiteral, literalOf, literalService, byLowByte, serviceOf, endingOf}
-use Rattle.service.proofs.Theorems.{by-literal, by-itself}
+use Rattle.service.specs.Services.{takesLiteral, literalOf, literalService, byLowByte, serviceOf, endingOf, endingOn}
+use Rattle.service.proofs.Theorems.{by-literal, by-itself, on-platform}
 use Rattle.service.specs.declared.Service.{Service}
 use Rattle.service.specs.declared.Service.the-variants.{Return, Call, TailCall, Syscall, TailSyscall, LongBranch, Preload, SetBase, StoreAtSp, LoadAtSp, LowerSp, DirectSyscall, Validate, Breakpoint, CallRegister, TailCallRegister, Bad}
 use Rattle.state.specs.declared.Record.{Record}
@@ -17,7 +17,8 @@ use Rattle.stop.specs.Stops.{Exit, direct, byLiteral}
 use Rattle.instruction.specs.Instructions.{exitOf}
 use Rattle.instruction.specs.Fitness.{ServiceAt, isExit}
 use Rattle.series.specs.Demand3.{StopsBy, OwnCall}
-use Rattle.claims.specs.Demand3.{Setting}
+use Rattle.platform.specs.Programs.{Program, Setting}
+use Rattle.platform.specs.declared.Platform.{Platform}
 use Rattle.instruction.proofs.Words.{InWidth, in-width}
 use Rattle.crossing.specs.Exits.{exitNumbers, decodedExit}
 use Rattle.crossing.specs.declared.ExitNumbers.{ExitNumbers}
@@ -45,6 +46,10 @@ kinds Breakpoint = refl
 kinds (CallRegister n) = refl
 kinds (TailCallRegister n) = refl
 kinds Bad = refl
+
+-- a platform makes no exit and takes none away
+same-exits : (platform : Platform) (s : Service) → isExit (endingOn platform s) ≡ isExit (endingOf s)
+same-exits platform s = ⊎-elim (ap isExit) (λ last. ap isExit (last .1) ∙ sym (ap isExit (last .0))) (on-platform platform s)
 
 in-page : (page : List ℕ) (n : ℕ) → isExit (endingOf (literalService page n)) ≡ true → literalService page n ≡ literalOf (wordAt page n)
 unfolding literalService
@@ -86,13 +91,16 @@ reports-literal page n w low e = go (takesLiteral low) e
     go true e = (cc, cc)
     go false e = (cc, cc)
 
-decodes-at : (page : List ℕ) (r : Record) {exit : Exit} (here : ServiceAt page r exit) (stop : StopNumbers) → here .low ≡ stop .value
-    → (takesLiteral (here .low) ≡ true → stop .literal ≡ wordAt page (here .low)) → Decodes page stop
-decodes-at page r here stop v h =
+decodes-at : (program : Program) (r : Record) {exit : Exit} (here : ServiceAt program r exit) (stop : StopNumbers) → here .low ≡ stop .value
+    → (takesLiteral (here .low) ≡ true → stop .literal ≡ wordAt (program .page) (here .low)) → Decodes (program .page) stop
+decodes-at program r here stop v h =
+    let page = program .page in
+    let exits : isExit (endingOf (serviceOf page (here .low))) ≡ true =
+    sym (same-exits (program .platform) (serviceOf page (here .low))) ∙ here .column in
     let low : here .low < 256 = subst InWidth (here .stands) (in-width page (r .place)) in
     let decoded : decodedStop stop ≡ exitNumbers (serviceOf page (stop .value)) =
-    subst (λ n. decodedExit n (stop .literal) ≡ exitNumbers (serviceOf page n)) v (told page (here .low) (stop .literal) low (here .column) h) in
-    let column = subst (λ n. isExit (endingOf (serviceOf page n)) ≡ true) v (here .column) in
+    subst (λ n. decodedExit n (stop .literal) ≡ exitNumbers (serviceOf page n)) v (told page (here .low) (stop .literal) low exits h) in
+    let column = subst (λ n. isExit (endingOf (serviceOf page n)) ≡ true) v exits in
     record {
       decodes = decoded;
       is-exit = ap (λ (x : ExitNumbers). eqb (x .kind) 0) decoded ∙ kinds (serviceOf page (stop .value)) ∙ ap not column;
@@ -100,7 +108,7 @@ decodes-at page r here stop v h =
 
 -- a host's call that stops at a service, as demand 3 has it of each, tells what decodes to the exit of that service
 pub exit-decoded : (setting : Setting) (c : RecordCall) → OwnCall (hostMachine setting) (handedRecord c) (gaveRecord c)
-    → AtService (crossedBy (c .call) .stop) → Decodes (setting .page) (crossedBy (c .call) .stop)
+    → AtService (crossedBy (c .call) .stop) → Decodes (setting .program .page) (crossedBy (c .call) .stop)
 exit-decoded setting c sound at = by at
   where
     stop : StopNumbers
@@ -110,12 +118,12 @@ exit-decoded setting c sound at = by at
     stops-by k e =
         subst (λ j. StopsBy (hostMachine setting) (handedRecord c) (gaveRecord c) (stopIn j (stop .value) (stop .literal))) e (sound .stops)
 
-    by : AtService stop → Decodes (setting .page) stop
+    by : AtService stop → Decodes (setting .program .page) stop
     by (inl e) =
         let here = stops-by 1 e .1 in
-        let carries = reports-direct (setting .page) (stop .value) (here .low) (here .reports) in
-        decodes-at (setting .page) _ here stop (sym (carries .1)) (λ t. absurd (true≢false (sym t ∙ carries .0)))
+        let carries = reports-direct (setting .program .page) (stop .value) (here .low) (here .reports) in
+        decodes-at (setting .program) _ here stop (sym (carries .1)) (λ t. absurd (true≢false (sym t ∙ carries .0)))
     by (inr e) =
         let here = stops-by 2 e .1 in
-        let carries = reports-literal (setting .page) (stop .value) (stop .literal) (here .low) (here .reports) in
-        decodes-at (setting .page) _ here stop (sym (carries .0)) (λ t. carries .1)
+        let carries = reports-literal (setting .program .page) (stop .value) (stop .literal) (here .low) (here .reports) in
+        decodes-at (setting .program) _ here stop (sym (carries .0)) (λ t. carries .1)

@@ -5,9 +5,10 @@ use mathlib.Core.List.{List, [], _∷_}
 use mathlib.Core.Path.{_≡_, refl, sym, ap, _∙_}
 use Rattle.refusal.specs.Refusals.{Decision, accepted, refused, Rule, rule, decision}
 use Rattle.state.specs.declared.Record.{Record}
+use Rattle.platform.specs.Programs.{Setting}
 use Rattle.stop.specs.Stops.{Reason, budget, service, fault, unlisted}
 use Rattle.stop.specs.Stops as stops
-use Rattle.plain.specs.PlainMachine.{Effect, Result, goesOn, exits, faults, onward, plain}
+use Rattle.plain.specs.PlainMachine.{Effect, goesOn, exits, faults, onward, plain}
 use Rattle.plain.specs.PlainMachine as effect
 use Rattle.plain.specs.Calls.{callBy}
 use Rattle.admission.specs.RunRefusals.{runRules, runDecision}
@@ -49,11 +50,11 @@ bare-refusal [] h = refl
 bare-refusal (rule true n values ∷ rules) h = h .0
 bare-refusal (rule false n values ∷ rules) h = bare-refusal rules (h .1)
 
-pub no-values : (page external : List ℕ) (total : ℕ) (r : Record) (ram : List ℕ) → NoValues (runOf page external total r ram .stop)
+pub no-values : (setting : Setting) (total : ℕ) (r : Record) (ram : List ℕ) → NoValues (runOf setting total r ram .stop)
 unfolding runDecision
-no-values page external total r ram = go (runDecision page external r ram) refl
+no-values setting total r ram = go (runDecision setting r ram) refl
   where
-    go : (d : Decision) → runDecision page external r ram ≡ d → NoValues (callBy d (instructionOf page external) total r ram .stop)
-    go accepted e = plain-no-values (instructionOf page external) total 0 r ram
+    go : (d : Decision) → runDecision setting r ram ≡ d → NoValues (callBy d (instructionOf setting) total r ram .stop)
+    go accepted e = plain-no-values (instructionOf setting) total 0 r ram
     go (refused n values) e =
-        sym (ap valuesIn e) ∙ bare-refusal (runRules page external r ram) (refl, (refl, (refl, (refl, (refl, tt)))))
+        sym (ap valuesIn e) ∙ bare-refusal (runRules setting r ram) (refl, (refl, (refl, (refl, (refl, tt)))))

@@ -7,10 +7,11 @@ use denote.Triple.Clauses.{AtExit}
 use denote.Ref.{now}
 use mathlib.Core.List.{List, [], _∷_}
 use lib.ListN.{getD}
+use Rattle.platform.specs.Platforms.{platformOf}
+use Rattle.platform.specs.Programs.{Setting, programOf, settingOf}
 use Rattle.stop.specs.Stops.{direct, byLiteral, Reason, budget, service, fault, unlisted, refused}
 use Rattle.plain.specs.PlainMachine.{Result}
 use Rattle.layout.specs.StoredForm.{recordIn}
-use Rattle.claims.specs.Demand3.{Setting}
 use Rattle.marshbodkin.specs.HostRuns.{Crossed, answered}
 use Rattle.marshbodkin.proofs.mb_raw_run as mb_raw_run
 use Rattle.marshbodkin.proofs.mb_raw_run.Kinds as run-kinds
@@ -31,26 +32,26 @@ abbrev pub Bytes : List ℕ → Type 0
 Bytes xs = (k : ℕ) → getD xs k 0 < 256
 
 pub record LentBytes (l : Lent) : Type 0 where
-  pub page : Bytes (l .setting .page)
+  pub page : Bytes (l .setting .program .page)
   pub external : Bytes (l .setting .external)
   pub bytes : Bytes (l .bytes)
   pub ram : Bytes (l .ram)
 
--- page, RAM, external data, the record's bytes and, for `mb_raw_run`, the budget
+-- page, the set of syscalls that never return, RAM, external data, the record's bytes and, for `mb_raw_run`, the budget
 abbrev pub lentRun : (κs : Lfts 8) → ArgsD mb_raw_run.signature κs → Lent
 lentRun κs a = record {
-  setting = record { page = now (a .0); external = now (a .1 .1 .0) };
-  budget = a .1 .1 .1 .1 .0;
-  bytes = now (a .1 .1 .1 .0);
-  ram = now (a .1 .0);
+  setting = settingOf (programOf (now (a .0)) (platformOf (a .1 .0))) (now (a .1 .1 .1 .0));
+  budget = a .1 .1 .1 .1 .1 .0;
+  bytes = now (a .1 .1 .1 .1 .0);
+  ram = now (a .1 .1 .0);
 }
 
 abbrev pub lentStep : (κs : Lfts 8) → ArgsD mb_raw_step.signature κs → Lent
 lentStep κs a = record {
-  setting = record { page = now (a .0); external = now (a .1 .1 .0) };
+  setting = settingOf (programOf (now (a .0)) (platformOf (a .1 .0))) (now (a .1 .1 .1 .0));
   budget = 1;
-  bytes = now (a .1 .1 .1 .0);
-  ram = now (a .1 .0);
+  bytes = now (a .1 .1 .1 .1 .0);
+  ram = now (a .1 .1 .0);
 }
 
 -- a call as the checker reads it: its arguments, its code, what is lent at exit, and all that is known of them: that bytes are
@@ -68,11 +69,11 @@ lentTo (ofStep κs a x s bytes contract) = lentStep κs a
 -- the code, kind, value, literal, steps, the record's bytes and RAM
 abbrev pub crossedBy : HostCall → Crossed
 crossedBy (ofRun κs a x s bytes contract) =
-    answered x (now (s .1 .1 .1 .1 .1 .0)) (now (s .1 .1 .1 .1 .1 .1 .0)) (now (s .1 .1 .1 .1 .1 .1 .1 .0))
-    (now (s .1 .1 .1 .1 .1 .1 .1 .1 .0)) (now (s .1 .1 .1 .0)) (now (s .1 .0))
+    answered x (now (s .1 .1 .1 .1 .1 .1 .0)) (now (s .1 .1 .1 .1 .1 .1 .1 .0)) (now (s .1 .1 .1 .1 .1 .1 .1 .1 .0))
+    (now (s .1 .1 .1 .1 .1 .1 .1 .1 .1 .0)) (now (s .1 .1 .1 .1 .0)) (now (s .1 .1 .0))
 crossedBy (ofStep κs a x s bytes contract) =
-    answered x (now (s .1 .1 .1 .1 .0)) (now (s .1 .1 .1 .1 .1 .0)) (now (s .1 .1 .1 .1 .1 .1 .0))
-    (now (s .1 .1 .1 .1 .1 .1 .1 .0)) (now (s .1 .1 .1 .0)) (now (s .1 .0))
+    answered x (now (s .1 .1 .1 .1 .1 .0)) (now (s .1 .1 .1 .1 .1 .1 .0)) (now (s .1 .1 .1 .1 .1 .1 .1 .0))
+    (now (s .1 .1 .1 .1 .1 .1 .1 .1 .0)) (now (s .1 .1 .1 .1 .0)) (now (s .1 .1 .0))
 
 -- ---- what comes back, read
 

@@ -10,7 +10,8 @@ use Rattle.series.specs.HandedOn.{Standing, InSeries, own, other, callIn, leftB
 use Rattle.series.specs.Machine.{Handed, Machine, Refuses}
 use Rattle.series.specs.Series.{State, fed, plainState}
 use Rattle.series.specs.Demand3.{Demand3}
-use Rattle.claims.specs.Demand3.{Setting, machineOf}
+use Rattle.platform.specs.Programs.{Setting}
+use Rattle.claims.specs.Demand3.{machineOf}
 use Rattle.crossing.specs.Numbers.{refusedWith}
 use Rattle.host_claims.specs.HostCalls.{HostCall, lentTo, crossedBy, resultIn}
 

@@ -12,6 +12,7 @@ use Rattle.bits.specs.Fields.{bits}
 use Rattle.bits.specs.Integers.{SInt}
 use Rattle.arm.specs.Conditions.{conditionHolds}
 use Rattle.page.specs.Page.{pageFits}
+use Rattle.platform.specs.Programs.{Program, Setting}
 use Rattle.isa.specs.declared.Instruction.{Instruction}
 use Rattle.isa.specs.declared.Instruction.the-variants.{Data, Memory, Cbz, Cbnz, Bcc, B, Unlisted}
 use Rattle.isa.specs.declared.Instruction.the-variants as instruction
@@ -19,7 +20,7 @@ use Rattle.branch.specs.Branches.{targetOf}
 use Rattle.branch.specs.declared.Target.{Target}
 use Rattle.branch.specs.declared.Target.the-variants.{At}
 use Rattle.branch.specs.declared.Target.the-variants as target
-use Rattle.service.specs.Services.{serviceOf, endingOf}
+use Rattle.service.specs.Services.{serviceOf, endingIn}
 use Rattle.service.specs.declared.Ending.{Ending}
 use Rattle.service.specs.declared.Ending.the-variants as ending
 use Rattle.bundle.specs.Flow.{endsFlow, jumpTo, serviceJump, flowBy, flowOf}
@@ -51,37 +52,43 @@ known PastPage = omega arith
 
 -- ---- each way to go on or to exit
 
-module _ (page external : List ℕ) (r : Record) (ram : List ℕ) (f : Fit page external r ram) where
+module _ (setting : Setting) (r : Record) (ram : List ℕ) (f : Fit setting r ram) where
+  abbrev program : Program
+  program = setting .program
+
+  abbrev page : List ℕ
+  page = setting .program .page
+
   abbrev Kept : Effect → Type 0
-  Kept = Keeps (Fit page external) (ServiceAt page r) Known
+  Kept = Keeps (Fit setting) (ServiceAt program r) Known
 
   -- what was written, at a fit place
-  fit-at : (w : Writes) (after : List ℕ) (place : ℕ) → Leaves (length external) (does w after) → fitPlace page place ≡ true
-      → Fit page external (applied r w place) after
+  fit-at : (w : Writes) (after : List ℕ) (place : ℕ) → Leaves (length (setting .external)) (does w after) → fitPlace program place ≡ true
+      → Fit setting (applied r w place) after
   unfolding fitRecord applied
   fit-at w after place h p = record { recordFits = h .0; placeFits = p; ramFits = h .1 }
 
-  end-kept : (end : Record → List ℕ → Effect) → ((s : Record) (after : List ℕ) → Fit page external s after → Kept (end s after))
-      → (place : ℕ) (o : Outcome) → Leaves (length external) o → fitPlace page place ≡ true → Kept (endAt end r place o)
+  end-kept : (end : Record → List ℕ → Effect) → ((s : Record) (after : List ℕ) → Fit setting s after → Kept (end s after))
+      → (place : ℕ) (o : Outcome) → Leaves (length (setting .external)) o → fitPlace program place ≡ true → Kept (endAt end r place o)
   unfolding endAt
   end-kept end k place (does w after) h p = k _ _ (fit-at w after place h p)
   end-kept end k place (fails fault) h p = known fault
 
-  fit-writes : FitWrites (length external) (writesNothing r)
+  fit-writes : FitWrites (length (setting .external)) (writesNothing r)
   unfolding fitRecord
   fit-writes = f .recordFits
 
   -- a branch only moves
-  moved : (place : ℕ) → fitPlace page place ≡ true → Fit page external (withPlace r place) ram
+  moved : (place : ℕ) → fitPlace program place ≡ true → Fit setting (withPlace r place) ram
   unfolding fitRecord withPlace
   moved place p = record { recordFits = f .recordFits; placeFits = p; ramFits = f .ramFits }
 
-  branch-kept : (t : Target) → LeadsFrom page (r .place) (flowBy true (jumpTo t)) → Kept (branchTo r ram t)
+  branch-kept : (t : Target) → LeadsFrom program (r .place) (flowBy true (jumpTo t)) → Kept (branchTo r ram t)
   unfolding branchTo
   branch-kept target.Bad h = absurd h
   branch-kept (At b) h = moved (2 * b) h
 
-  if-kept : (taken : Bool) (t : Target) → LeadsFrom page (r .place) (flowBy false (jumpTo t))
+  if-kept : (taken : Bool) (t : Target) → LeadsFrom program (r .place) (flowBy false (jumpTo t))
       → Kept (branchIf taken r ram (following page (r .place)) t)
   unfolding branchIf branchTo
   if-kept taken target.Bad h = absurd h
@@ -90,13 +97,13 @@ module _ (page external : List ℕ) (r : Record) (ram : List ℕ) (f : Fit page 
 
   -- ---- a service, by how it ends
 
-  exits-here : (n : ℕ) → instructionAt page (r .place) ≡ instruction.Service n → isExit (endingOf (serviceOf page n)) ≡ true
-      → ServiceAt page r (exitOf page n)
+  exits-here : (n : ℕ) → instructionAt program (r .place) ≡ instruction.Service n → isExit (endingIn program n) ≡ true
+      → ServiceAt program r (exitOf page n)
   exits-here n s e = record { low = n; stands = s; reports = refl; column = e }
 
-  service-kept : (n : ℕ) → instructionAt page (r .place) ≡ instruction.Service n
-      → (e : Ending) → endingOf (serviceOf page n) ≡ e → LeadsFrom page (r .place) (flowBy (endsFlow e) (serviceJump e))
-      → (o : Outcome) → Leaves (length external) o
+  service-kept : (n : ℕ) → instructionAt program (r .place) ≡ instruction.Service n
+      → (e : Ending) → endingIn program n ≡ e → LeadsFrom program (r .place) (flowBy (endsFlow e) (serviceJump e))
+      → (o : Outcome) → Leaves (length (setting .external)) o
       → Kept (servedBy e (exitOf page n) r (following page (r .place)) o)
   unfolding servedBy
   service-kept n s ending.GoesOn e h o l = end-kept goesOn (λ _ _ k. k) (following page (r .place)) o l h
@@ -108,32 +115,34 @@ module _ (page external : List ℕ) (r : Record) (ram : List ℕ) (f : Fit page 
 
   -- ---- every instruction
 
-  each-kept : (i : Instruction) → instructionAt page (r .place) ≡ i → LeadsFrom page (r .place) (flowOf page (r .place) i)
-      → Kept (effectOf page external r ram i)
+  each-kept : (i : Instruction) → instructionAt program (r .place) ≡ i → LeadsFrom program (r .place) (flowOf program (r .place) i)
+      → Kept (effectOf setting r ram i)
   unfolding flowOf effectOf served
   each-kept (Data operation) s h =
       end-kept goesOn (λ _ _ k. k) (following page (r .place)) (does (writesOf operation r) ram)
       (fit-writes, f .ramFits) h
   each-kept (Memory access) s h =
-      end-kept goesOn (λ _ _ k. k) (following page (r .place)) (accessed page external access r ram)
-      (accessed-leaves (length external) r ram fit-writes (f .ramFits) page external access) h
+      end-kept goesOn (λ _ _ k. k) (following page (r .place)) (accessed page (setting .external) access r ram)
+      (accessed-leaves (length (setting .external)) r ram fit-writes (f .ramFits) page (setting .external) access) h
   each-kept (Cbz imm6 n) s h = if-kept (eqb (register r n) 0) (targetOf (r .place) (pos imm6)) h
   each-kept (Cbnz imm6 n) s h = if-kept (not (eqb (register r n) 0)) (targetOf (r .place) (pos imm6)) h
   each-kept (Bcc condition imm8) s h = if-kept (conditionHolds condition (r .flags)) (targetOf (r .place) (SInt 8 imm8)) h
   each-kept (B imm11) s h = branch-kept (targetOf (r .place) (SInt 11 (bits imm11 10 0))) h
   each-kept (instruction.Service n) s h =
-      service-kept n s (endingOf (serviceOf page n)) refl h (serviceDoes (length external) (serviceOf page n) r ram)
-      (service-leaves (length external) r ram fit-writes (f .ramFits) (serviceOf page n))
+      service-kept n s (endingIn program n) refl h (serviceDoes (length (setting .external)) (serviceOf page n) r ram)
+      (service-leaves (length (setting .external)) r ram fit-writes (f .ramFits) (serviceOf page n))
   each-kept Unlisted s h = absurd h
 
-pub keeps : (page external : List ℕ) → pageFits page ≡ true → (r : Record) (ram : List ℕ)
-    → Fit page external r ram → Keeps (Fit page external) (ServiceAt page r) Known (instructionOf page external r ram)
+pub keeps : (setting : Setting) → pageFits (setting .program .page) ≡ true → (r : Record) (ram : List ℕ)
+    → Fit setting r ram → Keeps (Fit setting) (ServiceAt (setting .program) r) Known (instructionOf setting r ram)
 unfolding instructionOf
-keeps page external e r ram f =
-    each-kept page external r ram f (instructionAt page (r .place)) refl (leads page e (r .place) (f .placeFits))
+keeps setting e r ram f =
+    each-kept setting r ram f (instructionAt (setting .program) (r .place)) refl (leads (setting .program) e (r .place) (f .placeFits))
 
-pub starts : (page external : List ℕ) → pageFits page ≡ true → (r : Record) (ram : List ℕ) → Fit page external r ram → Starts page r
-starts page external e r ram f = record {
+pub starts : (setting : Setting) → pageFits (setting .program .page) ≡ true → (r : Record) (ram : List ℕ) → Fit setting r ram
+    → Starts (setting .program) r
+starts setting e r ram f = record {
   placeFits = f .placeFits;
-  isListed = leads-listed page (r .place) (instructionAt page (r .place)) (leads page e (r .place) (f .placeFits));
+  isListed = leads-listed (setting .program) (r .place) (instructionAt (setting .program) (r .place))
+      (leads (setting .program) e (r .place) (f .placeFits));
 }

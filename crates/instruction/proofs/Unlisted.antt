@@ -3,8 +3,8 @@
 use Prim.Native.Nat.{ℕ}
 use mathlib.Core.Bool.{Bool, true, false, not, true≢false}
 use mathlib.Core.List.{List}
-use mathlib.Core.Logic.{_↔_}
-use mathlib.Core.Path.{_≡_, refl, ap}
+use mathlib.Core.Logic.{_↔_, ⊎-elim}
+use mathlib.Core.Path.{_≡_, refl, sym, ap, _∙_}
 use lib.Dec.{eqb}
 use lib.IntN.{pos}
 use lib.ListN.{length}
@@ -18,7 +18,10 @@ use Rattle.branch.specs.Branches.{targetOf}
 use Rattle.branch.specs.declared.Target.{Target}
 use Rattle.branch.specs.declared.Target.the-variants.{At}
 use Rattle.branch.specs.declared.Target.the-variants as target
-use Rattle.service.specs.Services.{serviceOf, endingOf}
+use Rattle.platform.specs.Programs.{Setting}
+use Rattle.platform.specs.declared.Platform.{Platform}
+use Rattle.service.specs.Services.{serviceOf, endingOf, endingOn, endingIn}
+use Rattle.service.proofs.Theorems.{on-platform}
 use Rattle.service.specs.declared.Ending.{Ending}
 use Rattle.service.specs.declared.Ending.the-variants as ending
 use Rattle.service.specs.declared.Service.{Service as AnyService}
@@ -82,32 +85,39 @@ bad-ending (service.CallRegister n) e = cc
 bad-ending (service.TailCallRegister n) e = cc
 bad-ending service.Bad e = refl
 
+-- whatever the platform
+bad-on : (platform : Platform) (s : AnyService) → endingOn platform s ≡ ending.Bad ↔ s ≡ service.Bad
+bad-on platform s = (λ e. ⊎-elim (λ same. bad-ending s (sym same ∙ e)) (λ last. absurd (true≢false cc)) (on-platform platform s), λ h. ap (endingOn platform) h)
+
 -- ---- every instruction
 
-unlisted-each : (page external : List ℕ) (r : Record) (ram : List ℕ) (i : Instruction)
-    → effectOf page external r ram i ≡ unlisted ↔ Meaningless page r i
+unlisted-each : (setting : Setting) (r : Record) (ram : List ℕ) (i : Instruction)
+    → effectOf setting r ram i ≡ unlisted ↔ Meaningless (setting .program .page) r i
 unfolding effectOf served
-unlisted-each page external r ram (Data operation) = (not-on _ _ _, λ h. absurd h)
-unlisted-each page external r ram (Memory access) = (not-on _ _ _, λ h. absurd h)
-unlisted-each page external r ram (Cbz imm6 n) =
-    let bad = bad-taken (eqb (register r n) 0) r ram (following page (r .place)) (targetOf (r .place) (pos imm6)) in
+unlisted-each setting r ram (Data operation) = (not-on _ _ _, λ h. absurd h)
+unlisted-each setting r ram (Memory access) = (not-on _ _ _, λ h. absurd h)
+unlisted-each setting r ram (Cbz imm6 n) =
+    let bad = bad-taken (eqb (register r n) 0) r ram (following (setting .program .page) (r .place)) (targetOf (r .place) (pos imm6)) in
     (λ e. (eqb-true (register r n) 0 (bad .0 e .0), bad .0 e .1), λ h. bad .1 (eq-eqb (register r n) 0 (h .0), h .1))
-unlisted-each page external r ram (Cbnz imm6 n) =
+unlisted-each setting r ram (Cbnz imm6 n) =
     let zero = eqb (register r n) 0 in
-    let bad = bad-taken (not zero) r ram (following page (r .place)) (targetOf (r .place) (pos imm6)) in
+    let bad = bad-taken (not zero) r ram (following (setting .program .page) (r .place)) (targetOf (r .place) (pos imm6)) in
     let say : not zero ≡ true ↔ (register r n ≡ 0 → ⊥) = (λ e. eqb-false _ _ (not-true zero e), λ h. rw (ne-eqb _ _ h)) in
     (λ e. (say .0 (bad .0 e .0), bad .0 e .1), λ h. bad .1 (say .1 (h .0), h .1))
-unlisted-each page external r ram (Bcc condition imm8) =
-    bad-taken (conditionHolds condition (r .flags)) r ram (following page (r .place)) (targetOf (r .place) (SInt 8 imm8))
-unlisted-each page external r ram (B imm11) = bad-target r ram (targetOf (r .place) (SInt 11 (bits imm11 10 0)))
-unlisted-each page external r ram (Service n) =
+unlisted-each setting r ram (Bcc condition imm8) =
+    bad-taken (conditionHolds condition (r .flags)) r ram (following (setting .program .page) (r .place)) (targetOf (r .place) (SInt 8 imm8))
+unlisted-each setting r ram (B imm11) = bad-target r ram (targetOf (r .place) (SInt 11 (bits imm11 10 0)))
+unlisted-each setting r ram (Service n) =
+    let page = setting .program .page in
     let s = serviceOf page n in
-    let bad = bad-served (endingOf s) (exitOf page n) r (following page (r .place)) (serviceDoes (length external) s r ram) in
-    (λ e. bad-ending s (bad .0 e), λ h. bad .1 (ap endingOf h))
-unlisted-each page external r ram Unlisted = (λ e. tt, λ h. refl)
+    let bad = bad-served (endingIn (setting .program) n) (exitOf page n) r (following page (r .place))
+    (serviceDoes (length (setting .external)) s r ram) in
+    let on = bad-on (setting .program .platform) s in
+    (λ e. on .0 (bad .0 e), λ h. bad .1 (on .1 h))
+unlisted-each setting r ram Unlisted = (λ e. tt, λ h. refl)
 
-pub unlisted-iff : (page external : List ℕ) (r : Record) (ram : List ℕ)
-    → (instructionOf page external r ram ≡ unlisted → Meaningless page r (instructionAt page (r .place)))
-    × (Meaningless page r (instructionAt page (r .place)) → instructionOf page external r ram ≡ unlisted)
+pub unlisted-iff : (setting : Setting) (r : Record) (ram : List ℕ)
+    → (instructionOf setting r ram ≡ unlisted → Meaningless (setting .program .page) r (instructionAt (setting .program) (r .place)))
+    × (Meaningless (setting .program .page) r (instructionAt (setting .program) (r .place)) → instructionOf setting r ram ≡ unlisted)
 unfolding instructionOf
-unlisted-iff page external r ram = unlisted-each page external r ram (instructionAt page (r .place))
+unlisted-iff setting r ram = unlisted-each setting r ram (instructionAt (setting .program) (r .place))

@@ -31,7 +31,7 @@ use Rattle.state.specs.Record.{registerIn}
 use Rattle.writing.specs.declared.Write.{Write}
 use Rattle.writing.specs.declared.Write.the-variants.{NoRegister, Register}
 use Rattle.compute.specs.Computed.{lowByte, computed}
-use Rattle.place.specs.Places.{isEven, standsIn, instructionAt}
+use Rattle.place.specs.Places.{isEven, standsIn, standsAt}
 
 -- ---- lists of numbers below a bound
 
@@ -217,8 +217,8 @@ decoded-in-width (row p m ∷ rows) h w = go (matches p w) (decoded-in-width row
     go true rest = h .0 w
     go false rest = rest
 
-pub in-width : (page : List ℕ) (place : ℕ) → InWidth (instructionAt page place)
-unfolding instructionAt standsIn
+pub in-width : (page : List ℕ) (place : ℕ) → InWidth (standsAt page place)
+unfolding standsAt standsIn
 in-width page place =
     go (ltb (place / 2) (bundlesIn page)) (opens32 (firstOf page (place / 2))) (isEven place) (firstOf page (place / 2)) (secondOf page (place / 2))
   where

@@ -19,7 +19,8 @@ use Rattle.isa.specs.declared.Instruction.the-variants as instruction
 use Rattle.branch.specs.declared.Target.{Target}
 use Rattle.branch.specs.declared.Target.the-variants.{At}
 use Rattle.branch.specs.declared.Target.the-variants as target
-use Rattle.service.specs.Services.{serviceOf, endingOf}
+use Rattle.platform.specs.Programs.{Setting}
+use Rattle.service.specs.Services.{serviceOf, endingIn}
 use Rattle.service.specs.declared.Ending.{Ending}
 use Rattle.service.specs.declared.Ending.the-variants as ending
 use Rattle.service.specs.declared.Service.{Service}
@@ -144,7 +145,13 @@ unfolding leavesNone
 none-after (does w ram) h = h
 none-after (fails fault) h = tt
 
-module _ (page external : List ℕ) (p : Below 256 page) (e : Below 256 external) (r : Record) (ram : List ℕ) (h : Words r ram) where
+module _ (setting : Setting) (p : Below 256 (setting .program .page)) (e : Below 256 (setting .external)) (r : Record) (ram : List ℕ) (h : Words r ram) where
+  abbrev page : List ℕ
+  page = setting .program .page
+
+  abbrev external : List ℕ
+  external = setting .external
+
   load-words : (t : ℕ) (l : Loaded) → LoadedWord l → OutWords (loadTo r ram t l)
   unfolding loadTo
   load-words t (Value x) l = (l, h .bytes)
@@ -248,7 +255,7 @@ module _ (page external : List ℕ) (p : Below 256 page) (e : Below 256 external
   served-words ending.LastExit exit next o l = end-words (exits exit) (λ _ _ k. k) (r .place) o l
   served-words ending.Bad exit next o l = tt
 
-  each-words : (i : Instruction) → InWidth i → Leaves Words (effectOf page external r ram i)
+  each-words : (i : Instruction) → InWidth i → Leaves Words (effectOf setting r ram i)
   unfolding effectOf served
   each-words (Data operation) w =
       end-words goesOn (λ _ _ k. k) (following page (r .place)) _ (w (r .regs) (r .sp) (r .flags) (h .words), h .bytes)
@@ -258,9 +265,9 @@ module _ (page external : List ℕ) (p : Below 256 page) (e : Below 256 external
   each-words (Bcc condition imm8) w = if-words _ _ _
   each-words (B imm11) w = branch-words _
   each-words (instruction.Service n) w =
-      served-words (endingOf (serviceOf page n)) (exitOf page n) (following page (r .place)) _ (service-words (serviceOf page n))
+      served-words (endingIn (setting .program) n) (exitOf page n) (following page (r .place)) _ (service-words (serviceOf page n))
   each-words Unlisted w = tt
 
-  pub words-kept : Leaves Words (instructionOf page external r ram)
+  pub words-kept : Leaves Words (instructionOf setting r ram)
   unfolding instructionOf
-  words-kept = each-words (instructionAt page (r .place)) (in-width page (r .place))
+  words-kept = each-words (instructionAt (setting .program) (r .place)) (in-width page (r .place))

@@ -6,7 +6,8 @@ use mathlib.Core.Path.{_≡_}
 use lib.ListN.{length}
 use Rattle.isa.specs.declared.Instruction.the-variants as instruction
 use Rattle.bundle.specs.Flow.{listed}
-use Rattle.service.specs.Services.{serviceOf, endingOf}
+use Rattle.platform.specs.Programs.{Program, Setting}
+use Rattle.service.specs.Services.{endingIn}
 use Rattle.service.specs.declared.Ending.{Ending}
 use Rattle.service.specs.declared.Ending.the-variants as ending
 use Rattle.state.specs.Record.{fitRecord}
@@ -16,15 +17,15 @@ use Rattle.place.specs.Places.{instructionAt, fitPlace}
 use Rattle.instruction.specs.Instructions.{exitOf}
 
 -- a fit record with a fit place, and RAM of its size
-pub record Fit (page external : List ℕ) (r : Record) (ram : List ℕ) : Type 0 where
-  pub recordFits : fitRecord r (length external) ≡ true
-  pub placeFits : fitPlace page (r .place) ≡ true
+pub record Fit (setting : Setting) (r : Record) (ram : List ℕ) : Type 0 where
+  pub recordFits : fitRecord r (length (setting .external)) ≡ true
+  pub placeFits : fitPlace (setting .program) (r .place) ≡ true
   pub ramFits : length ram ≡ 32768
 
 -- a place starts a listed instruction if it is fit and what stands there matches a listed encoding
-pub record Starts (page : List ℕ) (r : Record) : Type 0 where
-  pub placeFits : fitPlace page (r .place) ≡ true
-  pub isListed : listed (instructionAt page (r .place)) ≡ true
+pub record Starts (program : Program) (r : Record) : Type 0 where
+  pub placeFits : fitPlace program (r .place) ≡ true
+  pub isListed : listed (instructionAt program (r .place)) ≡ true
 
 -- the build paper's exits, terminators or not
 abbrev pub isExit : Ending → Bool
@@ -34,12 +35,12 @@ isExit ending.LastExit = true
 isExit ending.Bad = false
 
 -- a service stands at the place that exits so: with its low byte and, for 01-7F, the page's literal
-pub record ServiceAt (page : List ℕ) (r : Record) (exit : Exit) : Type 0 where
+pub record ServiceAt (program : Program) (r : Record) (exit : Exit) : Type 0 where
   pub low : ℕ
-  pub stands : instructionAt page (r .place) ≡ instruction.Service low
-  pub reports : exit ≡ exitOf page low
-  pub column : isExit (endingOf (serviceOf page low)) ≡ true
+  pub stands : instructionAt program (r .place) ≡ instruction.Service low
+  pub reports : exit ≡ exitOf (program .page) low
+  pub column : isExit (endingIn program low) ≡ true
 
--- the six faults
+-- the build paper's faults
 abbrev pub Known : ℕ → Type 0
 Known n = (1 ≤ n) × (n ≤ 6)

@@ -1,4 +1,4 @@
--- The definition of an instruction: it reads the page at the place and isn't given the count. A fault, or what is unlisted,
+-- The definition of an instruction: it reads the program at the place and isn't given the count. A fault, or what is unlisted,
 -- changes nothing.
 use Prim.Native.Nat.{ℕ, _*_}
 use mathlib.Core.Bool.{Bool, not, cond}
@@ -10,6 +10,7 @@ use Rattle.bits.specs.Fields.{bits}
 use Rattle.bits.specs.Integers.{SInt}
 use Rattle.arm.specs.Conditions.{conditionHolds}
 use Rattle.page.specs.Page.{wordAt}
+use Rattle.platform.specs.Programs.{Setting}
 use Rattle.isa.specs.declared.Operation.{Operation}
 use Rattle.isa.specs.declared.Instruction.{Instruction}
 use Rattle.isa.specs.declared.Instruction.the-variants.{Data, Memory, Cbz, Cbnz, Bcc, B, Service, Unlisted}
@@ -17,7 +18,7 @@ use Rattle.branch.specs.Branches.{targetOf}
 use Rattle.branch.specs.declared.Target.{Target}
 use Rattle.branch.specs.declared.Target.the-variants.{At}
 use Rattle.branch.specs.declared.Target.the-variants as target
-use Rattle.service.specs.Services.{takesLiteral, serviceOf, endingOf}
+use Rattle.service.specs.Services.{takesLiteral, serviceOf, endingIn}
 use Rattle.service.specs.declared.Ending.{Ending}
 use Rattle.service.specs.declared.Ending.the-variants as ending
 use Rattle.state.specs.Record.{register, withPlace}
@@ -75,10 +76,11 @@ servedBy ending.Exit exit r next o = endAt (exits exit) r next o
 servedBy ending.LastExit exit r next o = endAt (exits exit) r (r .place) o
 servedBy ending.Bad exit r next o = unlisted
 
-unfoldable pub served : List ℕ → List ℕ → Record → List ℕ → ℕ → Effect
-served page external r ram n =
-    servedBy (endingOf (serviceOf page n)) (exitOf page n) r (following page (r .place))
-    (serviceDoes (length external) (serviceOf page n) r ram)
+unfoldable pub served : Setting → Record → List ℕ → ℕ → Effect
+served setting r ram n =
+    let page = setting .program .page in
+    servedBy (endingIn (setting .program) n) (exitOf page n) r (following page (r .place))
+    (serviceDoes (length (setting .external)) (serviceOf page n) r ram)
 
 -- ---- every instruction
 
@@ -87,15 +89,18 @@ abbrev pub writesOf : Operation → Record → Writes
 writesOf operation r =
     keeping r (computed operation (r .regs) (r .sp) (r .flags) .register) (computed operation (r .regs) (r .sp) (r .flags) .flags)
 
-unfoldable pub effectOf : List ℕ → List ℕ → Record → List ℕ → Instruction → Effect
-effectOf page external r ram (Data operation) = endAt goesOn r (following page (r .place)) (does (writesOf operation r) ram)
-effectOf page external r ram (Memory access) = endAt goesOn r (following page (r .place)) (accessed page external access r ram)
-effectOf page external r ram (Cbz imm6 n) = cbz page imm6 n r ram
-effectOf page external r ram (Cbnz imm6 n) = cbnz page imm6 n r ram
-effectOf page external r ram (Bcc condition imm8) = bcc page condition imm8 r ram
-effectOf page external r ram (B imm11) = b imm11 r ram
-effectOf page external r ram (Service n) = served page external r ram n
-effectOf page external r ram Unlisted = unlisted
+unfoldable pub effectOf : Setting → Record → List ℕ → Instruction → Effect
+effectOf setting r ram (Data operation) =
+    endAt goesOn r (following (setting .program .page) (r .place)) (does (writesOf operation r) ram)
+effectOf setting r ram (Memory access) =
+    let page = setting .program .page in
+    endAt goesOn r (following page (r .place)) (accessed page (setting .external) access r ram)
+effectOf setting r ram (Cbz imm6 n) = cbz (setting .program .page) imm6 n r ram
+effectOf setting r ram (Cbnz imm6 n) = cbnz (setting .program .page) imm6 n r ram
+effectOf setting r ram (Bcc condition imm8) = bcc (setting .program .page) condition imm8 r ram
+effectOf setting r ram (B imm11) = b imm11 r ram
+effectOf setting r ram (Service n) = served setting r ram n
+effectOf setting r ram Unlisted = unlisted
 
-unfoldable pub instructionOf : List ℕ → List ℕ → Record → List ℕ → Effect
-instructionOf page external r ram = effectOf page external r ram (instructionAt page (r .place))
+unfoldable pub instructionOf : Setting → Record → List ℕ → Effect
+instructionOf setting r ram = effectOf setting r ram (instructionAt (setting .program) (r .place))

@@ -25,7 +25,9 @@ use Rattle.isa.specs.declared.Instruction.the-variants.{Data}
 use Rattle.isa.specs.declared.Instruction.the-variants as instruction
 use Rattle.branch.specs.declared.Target.{Target}
 use Rattle.branch.specs.declared.Target.the-variants as target
-use Rattle.service.specs.Services.{serviceOf, endingOf}
+use Rattle.platform.specs.Programs.{Setting, programOf, settingOf}
+use Rattle.platform.specs.declared.Platform.{Platform}
+use Rattle.service.specs.Services.{serviceOf, endingOn}
 use Rattle.service.specs.declared.Ending.{Ending}
 use Rattle.service.specs.declared.Service.{Service}
 use Rattle.memory.specs.Faults.{faultNumber}
@@ -44,7 +46,7 @@ use Rattle.stop.specs.Stops.{Exit, direct, byLiteral, service, fault}
 use Rattle.stop.specs.Stops as stops
 use Rattle.plain.specs.PlainMachine.{Effect, goesOn, exits, faults, unlisted, Result, onward, plain}
 use Rattle.plain.proofs.Theorems.{turn}
-use Rattle.place.specs.Places.{isEven, standsIn, instructionAt, following}
+use Rattle.place.specs.Places.{isEven, standsIn, standsAt, instructionAt, following}
 use Rattle.instruction.specs.Instructions.{endAt, branchTo, branchIf, exitOf, servedBy, served, writesOf, effectOf, instructionOf}
 use Rattle.machine.specs.Executed.{exitEnd, Ended, executedOf, effectRam, Executes, endedBy}
 use Rattle.machine.specs.declared.End.{End}
@@ -92,12 +94,12 @@ pub branching : (r : Record) (ram : List ℕ) (taken held : Bool) (next : ℕ) (
 branching r ram taken held next t to x p s h = rw (← p, ← s) h
 
 -- a service, by its meaning and its ending
-pub serving : (page external : List ℕ) (r : Record) (ram : List ℕ) (n : ℕ) (s : Service) (e : Ending)
-    → s ≡ serviceOf page n → e ≡ endingOf s
-    → served page external r ram n
+pub serving : (page : List ℕ) (platform : Platform) (external : List ℕ) (r : Record) (ram : List ℕ) (n : ℕ) (s : Service) (e : Ending)
+    → s ≡ serviceOf page n → e ≡ endingOn platform s
+    → served (settingOf (programOf page platform) external) r ram n
     ≡ servedBy e (exitOf page n) r (following page (r .place)) (serviceDoes (length external) s r ram)
 unfolding served
-serving page external r ram n s e p q = rw (q, p)
+serving page platform external r ram n s e p q = rw (q, p)
 
 pub behind-near : (page : List ℕ) (place : ℕ) → following page place ≤ place + 2
 unfolding following
@@ -142,9 +144,9 @@ turns instruction total steps r ram left x end s result l h e w inv =
 pub other-tag : OneOf (1 ∷ 2 ∷ 3 ∷ 4 ∷ 5 ∷ 6 ∷ 7 ∷ []) 0 → ⊥
 other-tag h = miss (1 ∷ 2 ∷ 3 ∷ 4 ∷ 5 ∷ 6 ∷ 7 ∷ []) 0 tt h
 
-pub data-inside : (page : List ℕ) (place : ℕ) (operation : Operation) → instructionAt page place ≡ Data operation
+pub data-inside : (page : List ℕ) (place : ℕ) (operation : Operation) → standsAt page place ≡ Data operation
     → place / 2 < length page / 4
-unfolding instructionAt
+unfolding standsAt
 data-inside page place operation =
     by (ltb (place / 2) (length page / 4)) (standsIn (isEven place) (firstOf page (place / 2)) (secondOf page (place / 2))) refl
   where
@@ -169,30 +171,30 @@ set-written r w k x after e l h = rw (e, h, set-eighth (r .regs) k x l)
 pub none-written : (r : Record) (w : Write) → w ≡ NoRegister → r ≡ registered r w
 none-written r w e = rw e
 
-pub data-turn : (page external : List ℕ) (total steps : ℕ) (r s : Record) (ram : List ℕ) (operation : Operation) (c : Computed) (next : ℕ)
-    (result : Result) → steps < total → instructionAt page (r .place) ≡ Data operation
-    → c ≡ computed operation (r .regs) (r .sp) (r .flags) → next ≡ following page (r .place) → s ≡ registered r (c .register)
-    → plain (instructionOf page external) (total - steps) steps r ram ≡ result
-    → plain (instructionOf page external) (total - (steps + 1)) (steps + 1)
+pub data-turn : (setting : Setting) (total steps : ℕ) (r s : Record) (ram : List ℕ) (operation : Operation) (c : Computed) (next : ℕ)
+    (result : Result) → steps < total → instructionAt (setting .program) (r .place) ≡ Data operation
+    → c ≡ computed operation (r .regs) (r .sp) (r .flags) → next ≡ following (setting .program .page) (r .place) → s ≡ registered r (c .register)
+    → plain (instructionOf setting) (total - steps) steps r ram ≡ result
+    → plain (instructionOf setting) (total - (steps + 1)) (steps + 1)
     (record { regs = s .regs; sp = s .sp; flags = c .flags; place = next; base = s .base }) ram
     ≡ result
 unfolding instructionOf effectOf endAt applied
-data-turn page external total steps r s ram operation c next result l i e n w h =
-    rw (w, e, n) (turn (instructionOf page external) total steps r ram
-    (goesOn (applied r (writesOf operation r) (following page (r .place))) ram) result l (rw i) h)
+data-turn setting total steps r s ram operation c next result l i e n w h =
+    rw (w, e, n) (turn (instructionOf setting) total steps r ram
+    (goesOn (applied r (writesOf operation r) (following (setting .program .page) (r .place))) ram) result l (rw i) h)
 
 -- ---- a call
 
-module _ (page external : List ℕ) (total : ℕ) (r : Record) (ram : List ℕ) (v : Verdict) (e : decisionOf v ≡ runDecision page external r ram) where
-  decided : (d : Decision) → decisionOf v ≡ d → callBy d (instructionOf page external) total r ram ≡ runOf page external total r ram
-  decided d h = ap (λ (x : Decision). callBy x (instructionOf page external) total r ram) (sym h ∙ e)
+module _ (setting : Setting) (total : ℕ) (r : Record) (ram : List ℕ) (v : Verdict) (e : decisionOf v ≡ runDecision setting r ram) where
+  decided : (d : Decision) → decisionOf v ≡ d → callBy d (instructionOf setting) total r ram ≡ runOf setting total r ram
+  decided d h = ap (λ (x : Decision). callBy x (instructionOf setting) total r ram) (sym h ∙ e)
 
   pub refused-run : (why : Refusal) → v ≡ Refused why
-      → record { stop = stops.refused (refusalNumber why) (refusalValues why); steps = 0; rec = r; ram = ram } ≡ runOf page external total r ram
+      → record { stop = stops.refused (refusalNumber why) (refusalValues why); steps = 0; rec = r; ram = ram } ≡ runOf setting total r ram
   refused-run why h = decided (decisionOf (Refused why)) (ap decisionOf h)
 
-  pub accepted-run : (x : Result) → v ≡ Accepted → x ≡ plain (instructionOf page external) total 0 r ram → x ≡ runOf page external total r ram
+  pub accepted-run : (x : Result) → v ≡ Accepted → x ≡ plain (instructionOf setting) total 0 r ram → x ≡ runOf setting total r ram
   accepted-run x h ran = ran ∙ decided accepted (ap decisionOf h)
 
-  pub accepted-short : v ≡ Accepted → length page ≤ 256
-  accepted-short h = fitting page (accepted-all page external r ram (sym e ∙ ap decisionOf h) .0) .0
+  pub accepted-short : v ≡ Accepted → length (setting .program .page) ≤ 256
+  accepted-short h = fitting (setting .program .page) (accepted-all setting r ram (sym e ∙ ap decisionOf h) .0) .0

@@ -2,6 +2,7 @@
 use Prim.Native.Nat.{ℕ}
 use mathlib.Core.List.{List}
 use mathlib.Core.Path.{_≡_}
+use Rattle.platform.specs.Programs.{Setting}
 use Rattle.state.specs.declared.Record.{Record}
 use Rattle.admission.specs.RunRefusals.{runDecision}
 use Rattle.stop.specs.Stops.{reasonOf}
@@ -11,13 +12,13 @@ use Rattle.instruction.specs.Instructions.{instructionOf}
 use Rattle.machine.specs.declared.Answer.{Answer}
 
 -- the plain machine's run, or the refusal
-abbrev pub runOf : List ℕ → List ℕ → ℕ → Record → List ℕ → Result
-runOf page external total r ram = callBy (runDecision page external r ram) (instructionOf page external) total r ram
+abbrev pub runOf : Setting → ℕ → Record → List ℕ → Result
+runOf setting total r ram = callBy (runDecision setting r ram) (instructionOf setting) total r ram
 
 -- an answer and the RAM at exit, by the build paper's numbers and values
 abbrev pub seen : Answer → List ℕ → Result
 seen a ram = record { stop = reasonOf (a .stop); steps = a .steps; rec = a .after; ram = ram }
 
 -- the contract of `run`, and of `step` with budget 1
-abbrev pub Gives : List ℕ → List ℕ → ℕ → Record → List ℕ → Answer → List ℕ → Type 0
-Gives page external total r ram a after = seen a after ≡ runOf page external total r ram
+abbrev pub Gives : Setting → ℕ → Record → List ℕ → Answer → List ℕ → Type 0
+Gives setting total r ram a after = seen a after ≡ runOf setting total r ram

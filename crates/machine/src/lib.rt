@@ -5,6 +5,7 @@ ghost use lib.ListN.{length};
 ghost use lib.Dec.{eqb};
 ghost use lib.IntN.{pos};
 ghost use mathlib.Core.Bool.{not};
+ghost use Rattle.platform.specs.Programs.{programOf, settingOf};
 ghost use Rattle.bits.specs.Fields.{bits};
 ghost use Rattle.bits.specs.Integers.{SInt};
 ghost use Rattle.arm.specs.Conditions.{conditionHolds};
@@ -19,6 +20,7 @@ use access::Did;
 use branch::Target;
 use isa::Instruction;
 use memory::Fault;
+use platform::Platform;
 use refusal::Verdict;
 use service::Ending;
 use state::Record;
@@ -177,12 +179,20 @@ fn exit_end(page: &[u8], n: u8) -> End
 }
 
 // The service with the low byte n, and the place behind it. A terminator keeps its place, any other moves on.
-fn serve(page: &[u8], external: &[u8], n: u8, r: Record, ram: &mut [u8], behind: u16) -> Executed
+fn serve(
+    page: &[u8],
+    platform: Platform,
+    external: &[u8],
+    n: u8,
+    r: Record,
+    ram: &mut [u8],
+    behind: u16,
+) -> Executed
     requires { ⌜ behind ≡ following (now page) (r .place) ⌝ }
-    ensures { λ x. ⌜ Executes r (now (ram .entry)) (served (now (page .entry)) (now (external .entry)) r (now (ram .entry)) n) x (now (ram .exit)) ⌝ }
+    ensures { λ x. ⌜ Executes r (now (ram .entry)) (served (settingOf (programOf (now (page .entry)) platform) (now (external .entry))) r (now (ram .entry)) n) x (now (ram .exit)) ⌝ }
 {
     let s = service::service_of(page, n);
-    match service::ending_of(s) {
+    match service::ending_on(platform, s) {
         Ending::GoesOn => ended(r, effects::serve(external, s, r, ram), End::GoesOn, behind),
         Ending::Exit => ended(
             r,
@@ -203,9 +213,16 @@ fn serve(page: &[u8], external: &[u8], n: u8, r: Record, ram: &mut [u8], behind:
 // ---- one instruction
 
 // The instruction i, which stands at the record's place. The data-processing ones are the run's own.
-fn perform(page: &[u8], external: &[u8], i: Instruction, r: Record, ram: &mut [u8]) -> Executed
+fn perform(
+    page: &[u8],
+    platform: Platform,
+    external: &[u8],
+    i: Instruction,
+    r: Record,
+    ram: &mut [u8],
+) -> Executed
     requires { ⌜ (r .place < 128) × NotData i ⌝ }
-    ensures { λ x. ⌜ Executes r (now (ram .entry)) (effectOf (now (page .entry)) (now (external .entry)) r (now (ram .entry)) i) x (now (ram .exit)) ⌝ }
+    ensures { λ x. ⌜ Executes r (now (ram .entry)) (effectOf (settingOf (programOf (now (page .entry)) platform) (now (external .entry))) r (now (ram .entry)) i) x (now (ram .exit)) ⌝ }
 {
     let next = next_place(page, r.place);
     match i {
@@ -220,18 +237,25 @@ fn perform(page: &[u8], external: &[u8], i: Instruction, r: Record, ram: &mut [u
         Instruction::Cbnz(imm6, n) => cbnz(imm6, n, r, next),
         Instruction::Bcc(condition, imm8) => bcc(condition, imm8, r, next),
         Instruction::B(imm11) => b(imm11, r),
-        Instruction::Service(n) => serve(page, external, n, r, ram, next),
+        Instruction::Service(n) => serve(page, platform, external, n, r, ram, next),
         Instruction::Unlisted => unlisted(r),
     }
 }
 
 // The instruction i, which was found at the record's place; past the page there is none.
-fn execute(page: &[u8], external: &[u8], i: Instruction, r: Record, ram: &mut [u8]) -> Executed
-    requires { ⌜ (length (now page) ≤ 256) × (i ≡ instructionAt (now page) (r .place)) × NotData i ⌝ }
-    ensures { λ x. ⌜ Executes r (now (ram .entry)) (instructionOf (now (page .entry)) (now (external .entry)) r (now (ram .entry))) x (now (ram .exit)) ⌝ }
+fn execute(
+    page: &[u8],
+    platform: Platform,
+    external: &[u8],
+    i: Instruction,
+    r: Record,
+    ram: &mut [u8],
+) -> Executed
+    requires { ⌜ (length (now page) ≤ 256) × (i ≡ instructionAt (programOf (now page) platform) (r .place)) × NotData i ⌝ }
+    ensures { λ x. ⌜ Executes r (now (ram .entry)) (instructionOf (settingOf (programOf (now (page .entry)) platform) (now (external .entry))) r (now (ram .entry))) x (now (ram .exit)) ⌝ }
 {
     if ((r.place / 2) as usize) < page.len() / 4 {
-        perform(page, external, i, r, ram)
+        perform(page, platform, external, i, r, ram)
     } else {
         unlisted(r)
     }
@@ -246,14 +270,21 @@ fn stopped(stop: Stop, steps: u32, after: Record) -> Answer
 }
 
 // Until the budget is spent or an instruction doesn't go on. What a data-processing instruction writes is written in place.
-fn run_on(page: &[u8], external: &[u8], start: Record, ram: &mut [u8], budget: u32) -> Answer
+fn run_on(
+    page: &[u8],
+    platform: Platform,
+    external: &[u8],
+    start: Record,
+    ram: &mut [u8],
+    budget: u32,
+) -> Answer
     requires { ⌜ length (now page) ≤ 256 ⌝ }
-    ensures { λ a. ⌜ seen a (now (ram .exit)) ≡ plain (instructionOf (now (page .entry)) (now (external .entry))) budget 0 start (now (ram .entry)) ⌝ }
+    ensures { λ a. ⌜ seen a (now (ram .exit)) ≡ plain (instructionOf (settingOf (programOf (now (page .entry)) platform) (now (external .entry)))) budget 0 start (now (ram .entry)) ⌝ }
 {
     let mut r = start;
     let mut steps: u32 = 0;
     while steps < budget {
-        let i = place::instruction_at(page, r.place);
+        let i = place::stands_at(page, r.place);
         if let Instruction::Data(operation) = i {
             let f = r.flags;
             let next = next_place(page, r.place);
@@ -267,7 +298,7 @@ fn run_on(page: &[u8], external: &[u8], start: Record, ram: &mut [u8], budget: u
             r.place = next;
             steps += 1;
         } else {
-            let x = execute(page, external, i, r, ram);
+            let x = execute(page, platform, external, i, r, ram);
             let end = x.end;
             let writes = x.writes;
             r = writing::applied(r, writes, x.place);
@@ -284,23 +315,30 @@ fn run_on(page: &[u8], external: &[u8], start: Record, ram: &mut [u8], budget: u
 }
 
 // A run with the build paper's budget.
-pub fn run(page: &[u8], ram: &mut [u8], external: &[u8], r: Record, budget: u32) -> Answer
-    ensures { λ a. ⌜ Gives (now (page .entry)) (now (external .entry)) budget r (now (ram .entry)) a (now (ram .exit)) ⌝ }
+pub fn run(
+    page: &[u8],
+    platform: Platform,
+    ram: &mut [u8],
+    external: &[u8],
+    r: Record,
+    budget: u32,
+) -> Answer
+    ensures { λ a. ⌜ Gives (settingOf (programOf (now (page .entry)) platform) (now (external .entry))) budget r (now (ram .entry)) a (now (ram .exit)) ⌝ }
 {
-    let verdict = admission::verdict_of(page, &ram[..], external, r);
+    let verdict = admission::verdict_of(page, platform, &ram[..], external, r);
     match verdict {
         Verdict::Refused(why) => Answer {
             stop: Stop::Refused(why),
             steps: 0,
             after: r,
         },
-        Verdict::Accepted => run_on(page, external, r, ram, budget),
+        Verdict::Accepted => run_on(page, platform, external, r, ram, budget),
     }
 }
 
 // The build paper's step: a run with budget 1.
-pub fn step(page: &[u8], ram: &mut [u8], external: &[u8], r: Record) -> Answer
-    ensures { λ a. ⌜ Gives (now (page .entry)) (now (external .entry)) 1 r (now (ram .entry)) a (now (ram .exit)) ⌝ }
+pub fn step(page: &[u8], platform: Platform, ram: &mut [u8], external: &[u8], r: Record) -> Answer
+    ensures { λ a. ⌜ Gives (settingOf (programOf (now (page .entry)) platform) (now (external .entry))) 1 r (now (ram .entry)) a (now (ram .exit)) ⌝ }
 {
-    run(page, ram, external, r, 1)
+    run(page, platform, ram, external, r, 1)
 }

@@ -6,6 +6,7 @@ use lib.Dec.{eqb}
 use mathlib.Core.Path.{_≡_, refl, sym, ap, _∙_}
 use lib.ListN.{length}
 use borrow.Author.Tests.{eq-eqb, ne-eqb}
+use Rattle.platform.specs.Programs.{Setting}
 use Rattle.state.specs.Record.{freshRecord}
 use Rattle.state.specs.declared.Record.{Record}
 use Rattle.stop.specs.Stops.{reasonOf}
@@ -84,8 +85,8 @@ pub no-record-code : (page external ram : List ℕ) (areas : Verdict) (code : �
     → code ≡ codeOf (decision (noRecordRules page external ram))
 no-record-code page external ram areas code e h = h ∙ rw (in-turn (areaRules page external ram) _, e)
 
-pub crosses : (page external bytes ram : List ℕ) (total : ℕ) (r : Record) (a : machine.Answer) (numbers : StopNumbers) (room after : List ℕ)
-    → holdsRecord bytes ≡ true → r ≡ recordIn bytes → Gives page external total r ram a after → numbers ≡ stopNumbers (reasonOf (a .stop))
-    → room ≡ roomWith (a .after) bytes → record { stop = numbers; steps = a .steps; bytes = room; ram = after } ≡ hostRun page external total bytes ram
-crosses page external bytes ram total r a numbers room after holds e gives n w =
+pub crosses : (setting : Setting) (bytes ram : List ℕ) (total : ℕ) (r : Record) (a : machine.Answer) (numbers : StopNumbers) (room after : List ℕ)
+    → holdsRecord bytes ≡ true → r ≡ recordIn bytes → Gives setting total r ram a after → numbers ≡ stopNumbers (reasonOf (a .stop))
+    → room ≡ roomWith (a .after) bytes → record { stop = numbers; steps = a .steps; bytes = room; ram = after } ≡ hostRun setting total bytes ram
+crosses setting bytes ram total r a numbers room after holds e gives n w =
     rw (holds, n, w, eq-eqb (length bytes) 44 (held bytes holds .0), ← e, ← gives)

@@ -2,6 +2,7 @@
 use Prim.Native.Nat.{ℕ}
 use mathlib.Core.Bool.{true, cond}
 use mathlib.Core.List.{List, [], _∷_, _++_}
+use Rattle.platform.specs.Programs.{Setting}
 use Rattle.refusal.specs.Refusals.{Rule, rule, decision}
 use Rattle.admission.specs.RunRefusals.{areaRules}
 use Rattle.plain.specs.PlainMachine.{Result}
@@ -32,7 +33,12 @@ abbrev pub noRecordRules : List ℕ → List ℕ → List ℕ → List Rule
 noRecordRules page external ram = areaRules page external ram ++ (rule true 255 [] ∷ [])
 
 -- the run of the record that the bytes hold; where they hold none, nothing changes
-abbrev pub hostRun : List ℕ → List ℕ → ℕ → List ℕ → List ℕ → Crossed
-hostRun page external total bytes ram =
-    cond (holdsRecord bytes) (crossing (runOf page external total (recordIn bytes) ram))
-    (record { stop = refusedWith (codeOf (decision (noRecordRules page external ram))); steps = 0; bytes = bytes; ram = ram })
+abbrev pub hostRun : Setting → ℕ → List ℕ → List ℕ → Crossed
+hostRun setting total bytes ram =
+    cond (holdsRecord bytes) (crossing (runOf setting total (recordIn bytes) ram))
+    (record {
+      stop = refusedWith (codeOf (decision (noRecordRules (setting .program .page) (setting .external) ram)));
+      steps = 0;
+      bytes = bytes;
+      ram = ram;
+    })

@@ -1,10 +1,12 @@
 // The calls that a host links, in C's way: one that can be refused answers 0, a refusal's number or 255, and the rest is given in lent
-// numbers and bytes. A record crosses as its 44 bytes, fit or not.
+// numbers and bytes. A record crosses as its 44 bytes, fit or not. Bit n of `never_return` says that direct syscall n never returns.
 ghost use mathlib.Core.Path.{_≡_};
 ghost use lib.ListN.{length};
+ghost use Rattle.platform.specs.Platforms.{platformOf};
+ghost use Rattle.platform.specs.Programs.{programOf, settingOf};
 ghost use Rattle.state.specs.Record.{freshRecord};
 ghost use Rattle.state.specs.Validation.{validateBase};
-ghost use Rattle.count.specs.Count.{countPage};
+ghost use Rattle.count.specs.Count.{countProgram};
 ghost use Rattle.bundle.specs.Reader.{readBundle};
 ghost use Rattle.layout.specs.StoredForm.{roomWith};
 ghost use Rattle.crossing.specs.Exits.{decodedExit};
@@ -12,30 +14,37 @@ ghost use Rattle.crossing.specs.Numbers.{codeOf, largestKind, largestNumber};
 ghost use Rattle.marshbodkin.specs.Crossing.{freshDecision, formDecision, formRoom};
 ghost use Rattle.marshbodkin.specs.HostRuns.{answered, hostRun};
 ghost use Rattle.marshbodkin.specs.Version.{libraryVersion};
+use platform::Platform;
 use refusal::Refusal;
 use refusal::Verdict;
 
 // ---- pages and bases
 
-// The count of a page.
+// The count of a program.
 #[no_mangle]
-pub extern "C" fn mb_raw_count(page: &[u8], count: &mut u32) -> u32
-    ensures { λ code. ⌜ (code ≡ codeOf (countPage (now (page .entry)) .decision)) × (now (count .exit) ≡ countPage (now (page .entry)) .count) ⌝ }
+pub extern "C" fn mb_raw_count(page: &[u8], never_return: u64, count: &mut u32) -> u32
+    ensures { λ code. ⌜ (code ≡ codeOf (countProgram (programOf (now (page .entry)) (platformOf «never_return»)) .decision)) × (now (count .exit) ≡ countProgram (programOf (now (page .entry)) (platformOf «never_return»)) .count) ⌝ }
 {
-    let counted = count::count(page);
+    let counted = count::count(page, Platform { never_return });
     let verdict = counted.verdict;
     *count = counted.count;
     crossing::code_of(verdict)
 }
 
-// Bundle k of a page: 0 bad, 1 no successor, 2 the largest successor.
+// Bundle k of a program: 0 bad, 1 no successor, 2 the largest successor.
 #[no_mangle]
-pub extern "C" fn mb_raw_read_bundle(page: &[u8], k: u32, kind: &mut u32, largest: &mut u32) -> u32
-    ensures { λ code. ⌜ (code ≡ codeOf (readBundle (now (page .entry)) k .decision))
-        × (now (kind .exit) ≡ largestKind (readBundle (now (page .entry)) k .reading))
-        × (now (largest .exit) ≡ largestNumber (readBundle (now (page .entry)) k .reading)) ⌝ }
+pub extern "C" fn mb_raw_read_bundle(
+    page: &[u8],
+    never_return: u64,
+    k: u32,
+    kind: &mut u32,
+    largest: &mut u32,
+) -> u32
+    ensures { λ code. ⌜ (code ≡ codeOf (readBundle (programOf (now (page .entry)) (platformOf «never_return»)) k .decision))
+        × (now (kind .exit) ≡ largestKind (readBundle (programOf (now (page .entry)) (platformOf «never_return»)) k .reading))
+        × (now (largest .exit) ≡ largestNumber (readBundle (programOf (now (page .entry)) (platformOf «never_return»)) k .reading)) ⌝ }
 {
-    let read = bundle::read_bundle(page, k);
+    let read = bundle::read_bundle(page, Platform { never_return }, k);
     let verdict = read.verdict;
     let successor = read.largest;
     *kind = crossing::largest_kind(successor);
@@ -117,6 +126,7 @@ pub extern "C" fn mb_raw_load(stored: &[u8], bytes: &mut [u8]) -> u32
 #[no_mangle]
 pub extern "C" fn mb_raw_run(
     page: &[u8],
+    never_return: u64,
     ram: &mut [u8],
     external: &[u8],
     bytes: &mut [u8],
@@ -127,7 +137,7 @@ pub extern "C" fn mb_raw_run(
     steps: &mut u32,
 ) -> u32
     ensures { λ code. ⌜ answered code (now (kind .exit)) (now (value .exit)) (now (literal .exit)) (now (steps .exit)) (now (bytes .exit)) (now (ram .exit))
-        ≡ hostRun (now (page .entry)) (now (external .entry)) budget (now (bytes .entry)) (now (ram .entry)) ⌝ }
+        ≡ hostRun (settingOf (programOf (now (page .entry)) (platformOf «never_return»)) (now (external .entry))) budget (now (bytes .entry)) (now (ram .entry)) ⌝ }
 {
     if !layout::holds_record(&bytes[..]) {
         let code = crossing::no_record_code(admission::of_areas(page, &ram[..], external));
@@ -137,7 +147,14 @@ pub extern "C" fn mb_raw_run(
         *steps = 0;
         return code;
     }
-    let answer = machine::run(page, ram, external, layout::record_in(&bytes[..]), budget);
+    let answer = machine::run(
+        page,
+        Platform { never_return },
+        ram,
+        external,
+        layout::record_in(&bytes[..]),
+        budget,
+    );
     let stop = answer.stop;
     let after = answer.after;
     layout::write(after, bytes);
@@ -153,6 +170,7 @@ pub extern "C" fn mb_raw_run(
 #[no_mangle]
 pub extern "C" fn mb_raw_step(
     page: &[u8],
+    never_return: u64,
     ram: &mut [u8],
     external: &[u8],
     bytes: &mut [u8],
@@ -162,9 +180,20 @@ pub extern "C" fn mb_raw_step(
     steps: &mut u32,
 ) -> u32
     ensures { λ code. ⌜ answered code (now (kind .exit)) (now (value .exit)) (now (literal .exit)) (now (steps .exit)) (now (bytes .exit)) (now (ram .exit))
-        ≡ hostRun (now (page .entry)) (now (external .entry)) 1 (now (bytes .entry)) (now (ram .entry)) ⌝ }
+        ≡ hostRun (settingOf (programOf (now (page .entry)) (platformOf «never_return»)) (now (external .entry))) 1 (now (bytes .entry)) (now (ram .entry)) ⌝ }
 {
-    mb_raw_run(page, ram, external, bytes, 1, kind, value, literal, steps)
+    mb_raw_run(
+        page,
+        never_return,
+        ram,
+        external,
+        bytes,
+        1,
+        kind,
+        value,
+        literal,
+        steps,
+    )
 }
 
 // The exit of a low byte with its literal: what a stop at a service asks of the host.
@@ -193,7 +222,7 @@ pub extern "C" fn mb_raw_exit(
 
 const MAJOR: u32 = 0;
 
-const MINOR: u32 = 2;
+const MINOR: u32 = 3;
 
 const PATCH: u32 = 0;
 

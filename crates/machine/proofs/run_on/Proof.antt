@@ -4,6 +4,7 @@ use native.Mathlib.Omega.{arith}
 use lib.ListN.{length}
 use mathlib.Core.Logic.{⊎-elim}
 use mathlib.Core.Path.{_≡_, refl, sym, _∙_}
+use Rattle.platform.specs.Programs.{programOf, settingOf}
 use Rattle.plain.specs.PlainMachine.{plain}
 use Rattle.plain.proofs.Theorems.{spent}
 use Rattle.instruction.specs.Instructions.{instructionOf}
@@ -13,20 +14,20 @@ use Rattle.machine.proofs.run_on.Statement.{statement}
 use Rattle.machine.proofs.run_on.Tie as tie
 
 abbrev Inv-loop : tie.InvT-loop
-Inv-loop page external ram₀ budget r₀ steps₀ ram r steps =
-    (plain (instructionOf page external) (budget - steps) steps r ram ≡ plain (instructionOf page external) budget 0 r₀ ram₀)
+Inv-loop page platform external ram₀ budget r₀ steps₀ ram r steps =
+    (plain (instructionOf (settingOf (programOf page platform) external)) (budget - steps) steps r ram ≡ plain (instructionOf (settingOf (programOf page platform) external)) budget 0 r₀ ram₀)
     × (steps ≤ budget)
     × (length ram ≡ length ram₀)
     × (length (r .regs) ≡ 8)
 
 abbrev μ-loop : tie.MeasureT-loop
-μ-loop page external ram₀ budget r₀ steps₀ ram r steps = budget - steps
+μ-loop page platform external ram₀ budget r₀ steps₀ ram r steps = budget - steps
 
 loop-holds : tie.Need-loop-holds Inv-loop μ-loop
 loop-holds c = (rw sub-zero, search needs, refl, search needs)
 
 next-place-requires : tie.Need-next-place-requires Inv-loop μ-loop
-next-place-requires c κs = let h = data-inside _ _ _ (sym (c .before .before .before .before .instruction-at .ensures) ∙ c .before .before .i .given .1) in omega (arith, h, c .before .before .before .before .before .before .before .before .before .before .pre)
+next-place-requires c κs = let h = data-inside _ _ _ (sym (c .before .before .before .before .stands-at .ensures) ∙ c .before .before .i .given .1) in omega (arith, h, c .before .before .before .before .before .before .before .before .before .before .pre)
 
 add-steps : tie.Need-add-steps Inv-loop μ-loop
 add-steps c = omega arith
@@ -44,14 +45,14 @@ loop-again c = let kept = c .before .before .before .before .before .before .bef
     (λ x. x .2 ∙ none-written r w (x .1 .given .1))
     (c .match2 .came)
     in (
-      data-turn _ _ _ _ _ _ _ _ _ _ _ (c .before .before .before .before .before .before .before .before .before .before .before .before .loop-test .taken) (sym (c .before .before .before .before .before .before .before .before .before .before .before .instruction-at .ensures) ∙ c .before .before .before .before .before .before .before .before .before .i .given .1) (c .before .before .compute .ensures) (c .before .before .before .before .before .before .next-place .ensures) written (kept .0),
+      data-turn _ _ _ _ _ _ _ _ _ _ (c .before .before .before .before .before .before .before .before .before .before .before .before .loop-test .taken) (sym (c .before .before .before .before .before .before .before .before .before .before .before .stands-at .ensures) ∙ c .before .before .before .before .before .before .before .before .before .i .given .1) (c .before .before .compute .ensures) (c .before .before .before .before .before .before .next-place .ensures) written (kept .0),
       omega arith,
       search needs,
       registered-length r _ w written (kept .3),
     )
 
 execute-requires : tie.Need-execute-requires Inv-loop μ-loop
-execute-requires c κs = (c .before .before .before .before .before .before .before .before .pre, c .before .before .instruction-at .ensures, λ operation e. other-tag (rw e at (c .before .match .keys2)))
+execute-requires c κs = (c .before .before .before .before .before .before .before .before .pre, c .before .before .stands-at .ensures, λ operation e. other-tag (rw e at (c .before .match .keys2)))
 
 add-steps-2 : tie.Need-add-steps-2 Inv-loop μ-loop
 add-steps-2 c = omega (arith, c .before .before .before .before .before .before .before .before .before .before .loop-test .taken, c .before .before .before .before .before .before .before .before .before .before .before .before .before .before .before .fits)
@@ -63,7 +64,7 @@ loop-again-2 : tie.Need-loop-again-2 Inv-loop μ-loop
 loop-again-2 c = (
   turns _ _ _ _ _ _ _ _ _ _ (c .before .before .before .before .before .before .before .before .before .before .loop-test .taken) (c .before .before .before .before .before .before .execute .ensures) (c .enum-told2 .given .1) (c .before .before .applied .ensures) (c .before .before .before .before .before .before .before .before .before .before .before .loop .inv .0),
   omega arith,
-  c .before .before .before .before .before .before .execute .kept .1 .1 .1 .1 .0 ∙ c .before .before .before .before .before .before .before .before .before .before .before .loop .inv .2,
+  c .before .before .before .before .before .before .execute .kept .1 .1 .1 .1 .1 .0 ∙ c .before .before .before .before .before .before .before .before .before .before .before .loop .inv .2,
   search needs,
 )
 
@@ -71,7 +72,7 @@ add-stopped : tie.Need-add-stopped Inv-loop μ-loop
 add-stopped c = omega (arith, c .before .before .before .before .before .before .before .before .before .before .before .loop-test .taken, c .before .before .before .before .before .before .before .before .before .before .before .before .before .before .before .before .fits)
 
 same-length : tie.Need-same-length Inv-loop μ-loop
-same-length c = c .before .before .before .before .before .before .before .before .execute .kept .1 .1 .1 .1 .0 ∙ c .before .before .before .before .before .before .before .before .before .before .before .before .before .loop .inv .2
+same-length c = c .before .before .before .before .before .before .before .before .execute .kept .1 .1 .1 .1 .1 .0 ∙ c .before .before .before .before .before .before .before .before .before .before .before .before .before .loop .inv .2
 
 returns : tie.Need-returns Inv-loop μ-loop
 returns c = rw (c .stopped .ensures) (turns _ _ _ _ _ _ _ _ _ _ (c .before .before .before .before .before .before .before .before .before .before .before .before .loop-test .taken) (c .before .before .before .before .before .before .before .before .execute .ensures) (c .before .before .end .given .1) (c .before .before .before .before .applied .ensures) (c .before .before .before .before .before .before .before .before .before .before .before .before .before .loop .inv .0))
@@ -80,19 +81,19 @@ add-stopped-2 : tie.Need-add-stopped-2 Inv-loop μ-loop
 add-stopped-2 c = omega (arith, c .before .before .before .before .before .before .before .before .before .before .before .loop-test .taken, c .before .before .before .before .before .before .before .before .before .before .before .before .before .before .before .before .fits)
 
 same-length-2 : tie.Need-same-length-2 Inv-loop μ-loop
-same-length-2 c = c .before .before .before .before .before .before .before .before .execute .kept .1 .1 .1 .1 .0 ∙ c .before .before .before .before .before .before .before .before .before .before .before .before .before .loop .inv .2
+same-length-2 c = c .before .before .before .before .before .before .before .before .execute .kept .1 .1 .1 .1 .1 .0 ∙ c .before .before .before .before .before .before .before .before .before .before .before .before .before .loop .inv .2
 
 returns-2 : tie.Need-returns-2 Inv-loop μ-loop
 returns-2 c = rw (c .stopped2 .ensures) (turns _ _ _ _ _ _ _ _ _ _ (c .before .before .before .before .before .before .before .before .before .before .before .before .loop-test .taken) (c .before .before .before .before .before .before .before .before .execute .ensures) (c .before .before .end2 .given .1) (c .before .before .before .before .applied .ensures) (c .before .before .before .before .before .before .before .before .before .before .before .before .before .loop .inv .0))
 
 same-length-3 : tie.Need-same-length-3 Inv-loop μ-loop
-same-length-3 c = c .before .before .before .before .before .before .before .before .execute .kept .1 .1 .1 .1 .0 ∙ c .before .before .before .before .before .before .before .before .before .before .before .before .before .loop .inv .2
+same-length-3 c = c .before .before .before .before .before .before .before .before .execute .kept .1 .1 .1 .1 .1 .0 ∙ c .before .before .before .before .before .before .before .before .before .before .before .before .before .loop .inv .2
 
 returns-3 : tie.Need-returns-3 Inv-loop μ-loop
 returns-3 c = rw (c .stopped3 .ensures) (turns _ _ _ _ _ _ _ _ _ _ (c .before .before .before .before .before .before .before .before .before .before .before .before .loop-test .taken) (c .before .before .before .before .before .before .before .before .execute .ensures) (c .before .before .end3 .given .1) (c .before .before .before .before .applied .ensures) (c .before .before .before .before .before .before .before .before .before .before .before .before .before .loop .inv .0))
 
 same-length-4 : tie.Need-same-length-4 Inv-loop μ-loop
-same-length-4 c = c .before .before .before .before .before .before .before .execute .kept .1 .1 .1 .1 .0 ∙ c .before .before .before .before .before .before .before .before .before .before .before .before .loop .inv .2
+same-length-4 c = c .before .before .before .before .before .before .before .execute .kept .1 .1 .1 .1 .1 .0 ∙ c .before .before .before .before .before .before .before .before .before .before .before .before .loop .inv .2
 
 returns-4 : tie.Need-returns-4 Inv-loop μ-loop
 returns-4 c = rw (c .stopped4 .ensures) (turns _ _ _ _ _ _ _ _ _ _ (c .before .before .before .before .before .before .before .before .before .before .before .loop-test .taken) (c .before .before .before .before .before .before .before .execute .ensures) (c .before .enum-told3 .given .1) (c .before .before .before .applied .ensures) (c .before .before .before .before .before .before .before .before .before .before .before .before .loop .inv .0))

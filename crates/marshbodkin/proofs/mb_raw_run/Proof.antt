@@ -1,4 +1,6 @@
-use mathlib.Core.Path.{sym, ap, _∙_}
+use Rattle.platform.specs.Platforms.{platformOf}
+use Rattle.platform.specs.Programs.{programOf, settingOf}
+use mathlib.Core.Path.{sym, _∙_}
 use borrow.Author.Tests.{not-true, not-false}
 use Rattle.marshbodkin.proofs.Laws.{no-record-code, crosses}
 use borrow.Author.Needs.{needs}
@@ -15,7 +17,7 @@ returns-2 : tie.Need-returns-2
 returns-2 c =
     let s = c .before .before .before .before .before .before .before .before .before .before .before .before .before .before .before .before .before .before .before .args in
     let held = sym (c .before .before .before .before .before .before .before .before .before .before .before .before .before .holds-record .ensures) ∙ not-false _ (c .before .before .before .before .before .before .before .before .before .before .before .before .if1 .left) in
-    crosses (s .page .now) (s .external .now) (s .bytes .now) (s .ram .now) (s .budget) (c .before .before .before .before .before .before .before .before .before .record-in .result) (c .before .before .before .before .before .before .before .before .run .result) (c .numbers-of .result) _ _ held (c .before .before .before .before .before .before .before .before .before .record-in .ensures) (c .before .before .before .before .before .before .before .before .run .ensures) (c .numbers-of .ensures) (c .before .before .before .write .ensures .1)
+    crosses (settingOf (programOf (s .page .now) (platformOf (s .never-return))) (s .external .now)) (s .bytes .now) (s .ram .now) (s .budget) (c .before .before .before .before .before .before .before .before .before .record-in .result) (c .before .before .before .before .before .before .before .before .run .result) (c .numbers-of .result) _ _ held (c .before .before .before .before .before .before .before .before .before .record-in .ensures) (c .before .before .before .before .before .before .before .before .run .ensures) (c .numbers-of .ensures) (c .before .before .before .write .ensures .1)
 
 pub mb-raw-run-spec : {M : Type 1} → statement M
 mb-raw-run-spec = tie.close (tie.spec (λ c κs. tt) (λ c κs. tt) (λ c κs. tt) (λ c. search needs)
