@@ -9,6 +9,7 @@ ghost use lib.ListN.{length};
 use arm::Flags;
 use endian::Size;
 use machine::Answer;
+use platform::Platform;
 use state::Base;
 use state::Record;
 use streams::Input;
@@ -100,22 +101,41 @@ fn show_answer(answer: Answer) -> Record {
 }
 
 // With all that a run takes.
-fn run_bytes(page: &[u8], ram: &mut [u8], external: &[u8], r: Record, budget: u32) -> Record {
-    show_answer(machine::run(page, ram, external, r, budget))
+fn run_bytes(
+    page: &[u8],
+    platform: Platform,
+    ram: &mut [u8],
+    external: &[u8],
+    r: Record,
+    budget: u32,
+) -> Record {
+    show_answer(machine::run(page, platform, ram, external, r, budget))
 }
 
 // By a line's page. Record and budget need not be the line's, so that a later call can go on.
-fn run(line: &[u8], ram: &mut [u8], external: &[u8], r: Record, budget: u32) -> Record {
+fn run_with(
+    line: &[u8],
+    platform: Platform,
+    ram: &mut [u8],
+    external: &[u8],
+    r: Record,
+    budget: u32,
+) -> Record {
     let mut page = [0u8; 256];
     let n = assemble(line, &mut page);
-    run_bytes(&page[..n], ram, external, r, budget)
+    run_bytes(&page[..n], platform, ram, external, r, budget)
+}
+
+// The same with the empty set.
+fn run(line: &[u8], ram: &mut [u8], external: &[u8], r: Record, budget: u32) -> Record {
+    run_with(line, platform::default_platform(), ram, external, r, budget)
 }
 
 // A step by a line's page.
 fn step(line: &[u8], ram: &mut [u8], r: Record) -> Record {
     let mut page = [0u8; 256];
     let n = assemble(line, &mut page);
-    show_answer(machine::step(&page[..n], ram, b"", r))
+    show_answer(machine::step(&page[..n], platform::default_platform(), ram, b"", r))
 }
 
 // ---- cases of one call
@@ -174,6 +194,7 @@ fn run_lengths(r: Record, page: usize, ram: usize, external: usize)
     let external_bytes = [0u8; 257];
     run_bytes(
         &page_bytes[..page],
+        platform::default_platform(),
         &mut ram_bytes[..ram],
         &external_bytes[..external],
         r,
@@ -277,6 +298,41 @@ fn two_steps() {
     run(line, &mut ram, b"", after, 100);
 }
 
+// ---- syscalls that never return
+
+fn run_set(line: &[u8], never_return: u64) {
+    let mut ram = [0u8; 32768];
+    run_with(
+        line,
+        Platform { never_return },
+        &mut ram,
+        b"",
+        record_of(line),
+        budget_of(line),
+    );
+}
+
+// With the set empty, and with that bit alone.
+fn run_both(line: &[u8], bit: u64) {
+    show_line(line);
+    run_set(line, 0);
+    run_set(line, bit);
+}
+
+fn last_syscalls() {
+    show_line(b"# a syscall that returns, and then never: the place moves on, or stays");
+    run_both(
+        b"00000000 00000000 18000 0000 0 00000009 BF00 DF80, BF00 DF00",
+        1,
+    );
+    run_both(
+        b"00000000 00000000 18000 0000 0 00000009 BF00 DFBF, BF00 DF00",
+        0x8000_0000_0000_0000,
+    );
+    show_line(b"# the place behind it, in its bundle, is fit, or isn't");
+    run_both(b"00000000 00000000 18000 0001 0 00000009 DF80 DF00", 1);
+}
+
 fn main() {
     let mut input = [0u8; 16384];
     let Input::Bytes(n) = streams::read_input(&PROGRAM, &mut input) else {
@@ -288,4 +344,5 @@ fn main() {
     bases();
     two_runs();
     two_steps();
+    last_syscalls();
 }

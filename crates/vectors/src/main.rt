@@ -3,6 +3,7 @@ use endian::Size;
 use memory::Fault;
 use memory::Loaded;
 use memory::Stored;
+use platform::Platform;
 use refusal::Verdict;
 use state::Base;
 
@@ -18,9 +19,9 @@ fn show_number(x: u64) {
 }
 
 // In hex, with at least that many digits.
-fn show_hex(x: u32, least: usize) {
+fn show_hex(x: u64, least: usize) {
     let mut digits = [0u8; 16];
-    let n = io::hex(x as u64, least, &mut digits);
+    let n = io::hex(x, least, &mut digits);
     show(&digits[..n]);
 }
 
@@ -56,7 +57,7 @@ fn pages() {
 }
 
 fn read(page: &[u8], k: u32) {
-    let answer = bundle::read_bundle(page, k);
+    let answer = bundle::read_bundle(page, platform::default_platform(), k);
     let verdict = answer.verdict;
     show_verdict(verdict);
 }
@@ -70,25 +71,47 @@ fn page_refusals() {
     read(b"\x00\xBF\x00\xDF", 1);
 }
 
+// ---- syscalls that never return
+
+// The count of a page, where the syscalls of a set never return.
+fn count(page: &[u8], never_return: u64) {
+    let counted = count::count(page, Platform { never_return });
+    show(b"never return ");
+    show_hex(never_return, 16);
+    show(b" count");
+    show_number(counted.count as u64);
+    show(b"\n");
+}
+
+fn sets() {
+    // BF00 DF80, with its bit, without it and with every other
+    count(b"\x00\xBF\x80\xDF", 1);
+    count(b"\x00\xBF\x80\xDF", 0);
+    count(b"\x00\xBF\x80\xDF", 0xFFFF_FFFF_FFFF_FFFE);
+    // BF00 DFBF
+    count(b"\x00\xBF\xBF\xDF", 0x8000_0000_0000_0000);
+    count(b"\x00\xBF\xBF\xDF", 0x7FFF_FFFF_FFFF_FFFF);
+}
+
 // ---- base validation
 
 fn validate(v: u32, external: &[u8]) {
     let answer = state::validate(v, external);
     let base = answer.base;
     let verdict = answer.verdict;
-    show_hex(v, 8);
+    show_hex(v as u64, 8);
     match base {
         Base::Nothing => {
             show(b" none\n");
         }
         Base::Ram(offset) => {
             show(b" ram ");
-            show_hex(offset, 5);
+            show_hex(offset as u64, 5);
             show(b"\n");
         }
         Base::External(offset) => {
             show(b" external ");
-            show_hex(offset, 6);
+            show_hex(offset as u64, 6);
             show(b"\n");
         }
     }
@@ -207,6 +230,7 @@ fn external_edges() {
 fn main() {
     pages();
     page_refusals();
+    sets();
     bases();
     ram_edges();
     external_edges();
