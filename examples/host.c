@@ -7,7 +7,7 @@
  * and the lower limit of a departure, r7 the number of pairs. It hands over each
  * pair by a direct syscall, with its departure in r3 and its background in r4:
  *
- *   0  DFE0 BF00  base = validate(r0)
+ *   0  DFE0 B18F  base = validate(r0); to 10 if r7 is 0
  *   1  F8D8 3000  r3 = observation
  *   2  F8D8 4004  r4 = background
  *   3  1B1B 428B  r3 = r3 - r4; compare r3 with r1
@@ -17,6 +17,11 @@
  *   7  DF81 BF00  direct syscall 1
  *   8  3008 3F01  r0 = r0 + 8; r7 = r7 - 1
  *   9  D1EC DF00  to 0 if that isn't 0; return
+ *  10  DFBF BF00  direct syscall 63, the abort
+ *
+ * The abort never returns, and the host says so: bundle 10 would go on otherwise,
+ * off the page, and wouldn't be counted, nor would bundle 0, which leads to it. So
+ * the lister, which is told no set, says count 0 of this page.
  *
  * A true low near a storm's core departs by -124 hPa. Less the upper limit that
  * is below what a word holds, so the compare overflows: by the sign bit alone the
@@ -25,7 +30,7 @@
 #include <stdlib.h>
 #include "marshbodkin.h"
 
-enum { KEPT = 0, REJECTED = 1 }; /* the filter's syscalls */
+enum { KEPT = 0, REJECTED = 1, ABORT = 63 }; /* the filter's syscalls */
 enum { SLICE = 20, MOST_STEPS = 1000 }; /* of a run; of a cycle, lest a filter loop for ever */
 enum { PAIR_BYTES = 8 };
 
@@ -115,12 +120,18 @@ static bool serve(host *h, mb_exit_parts asked)
     }
     if (asked.kind != MB_EXIT_DIRECT_SYSCALL)
         give_up("not served: ", mb_exit_words(asked.kind));
-    if (asked.number != KEPT && asked.number != REJECTED) {
+    switch (asked.number) {
+    case KEPT:
+    case REJECTED:
+        judged(h, asked.number == KEPT);
+        return true;
+    case ABORT:
+        printf("abort after %u steps\n", h->steps);
+        return false;
+    default:
         fprintf(stderr, "host: not served: direct syscall %u\n", asked.number);
         exit(1);
     }
-    judged(h, asked.number == KEPT);
-    return true;
 }
 
 /* Whether the cycle goes on after a stop. */
@@ -141,8 +152,8 @@ static bool goes_on(host *h, const mb_stopped *stopped)
     }
 }
 
-/* One cycle over some pairs, in slices. What is set here starts a new series of runs. A return leaves the stack to the
- * host, and a fault leaves the base. */
+/* One cycle over some pairs, in slices. What is set here starts a new series of runs. Return, fault and abort leave the
+ * place where they stand; a return leaves the stack to the host, a fault leaves the base. */
 static void cycle(host *h, unsigned first, unsigned number)
 {
     const mb_record fresh = mb_fresh();
@@ -172,6 +183,7 @@ int main(int count, char **words)
         give_up("usage: host PAGE", "");
     put_pairs(external);
     h.setting = mb_setting_of(mb_program_of(page, read_page(words[1], page)), external, sizeof external);
+    h.setting.program.never_return = mb_syscall_bit(ABORT);
     require(mb_count(&h.setting.program, &counted));
     printf("count %u of %u bundles\n", counted, (unsigned)(h.setting.program.page_length / MB_BUNDLE_BYTES));
     h.record = mb_fresh();
@@ -184,6 +196,8 @@ int main(int count, char **words)
     require(mb_load(stored, sizeof stored, &h.record, NULL));
     printf("cycle 2\n");
     cycle(&h, 30, 3); /* the host's mistake: two pairs are left */
+    printf("cycle 3\n");
+    cycle(&h, 0, 0); /* another: without a pair the filter would count down from 0 */
     printf("kept");
     for (uint32_t i = 0; i < h.kept; i++)
         printf(" %+.1f", hpa_of(word_at(h.ram + 4 * i)));

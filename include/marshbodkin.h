@@ -22,9 +22,9 @@
  * - it calls nothing outside itself, not even the C library;
  * - it is for x86-64 with the System V calling convention.
  *
- * In a series of steps and runs, hand each call the record and RAM exactly as
- * the call before left them: what is proved of a series is proved of such. A
- * record that the host changes starts a new series.
+ * In a series of steps and runs, hand each call the same setting, and the record
+ * and RAM exactly as the call before left them: what is proved of a series is
+ * proved of such. A record or a setting that the host changes starts a new series.
  */
 #ifndef MARSHBODKIN_H
 #define MARSHBODKIN_H
@@ -35,10 +35,11 @@
 #include <stdbool.h>
 #endif
 
-/* The version of this header, which is for the archive of the same version:
- * hold it against mb_version(). */
+/* The version of this header, which is for the archive of the same version. Hold
+ * it against mb_version() before any other call: the archive of another version
+ * takes other arguments, and the linker doesn't see it. */
 #define MB_VERSION_MAJOR 0
-#define MB_VERSION_MINOR 2
+#define MB_VERSION_MINOR 3
 #define MB_VERSION_PATCH 0
 #define MB_VERSION (65536u * MB_VERSION_MAJOR + 256u * MB_VERSION_MINOR + MB_VERSION_PATCH)
 
@@ -114,7 +115,7 @@ enum {
     MB_EXIT_SYSCALL = 4,            /* number, immediate */
     MB_EXIT_TAIL_SYSCALL = 5,       /* number, immediate */
     MB_EXIT_LONG_BRANCH = 6,        /* address */
-    MB_EXIT_DIRECT_SYSCALL = 7,     /* number */
+    MB_EXIT_DIRECT_SYSCALL = 7,     /* number: 0 to 63, its bit in never_return */
     MB_EXIT_BREAKPOINT = 8,
     MB_EXIT_CALL_REGISTER = 9,      /* number: of the register */
     MB_EXIT_TAIL_CALL_REGISTER = 10 /* number: of the register */
@@ -125,16 +126,17 @@ enum {
 /* ---- The proved calls
  *
  * The archive's functions as they are proved, over bytes and numbers, with a
- * record as the 44 bytes of docs/MACHINE.md's stored form. No pointer may be
- * null, not even where the length is 0. A host uses the calls further below,
- * which are over these. */
+ * record as the 44 bytes of docs/MACHINE.md's stored form, and never_return as
+ * mb_program has it. No pointer may be null, not even where the length is 0. A
+ * host uses the calls further below, which are over these. */
 
 uint32_t mb_raw_version(void);
 
-uint32_t mb_raw_count(const uint8_t *page, size_t page_length, uint32_t *count);
+uint32_t mb_raw_count(const uint8_t *page, size_t page_length, uint64_t never_return,
+                      uint32_t *count);
 
-uint32_t mb_raw_read_bundle(const uint8_t *page, size_t page_length, uint32_t k,
-                            uint32_t *kind, uint32_t *largest);
+uint32_t mb_raw_read_bundle(const uint8_t *page, size_t page_length, uint64_t never_return,
+                            uint32_t k, uint32_t *kind, uint32_t *largest);
 
 uint32_t mb_raw_validate(uint32_t v, const uint8_t *external, size_t external_length,
                          uint32_t *kind, uint32_t *offset);
@@ -151,14 +153,14 @@ uint32_t mb_raw_load(const uint8_t *stored, size_t stored_length,
 /* The record crosses without the stored form's range tests, so that one that
  * isn't fit is refused by 4 or 5. Bytes that hold no record (255) are not 44, or
  * have a base kind above 2, an offset though the kind is none, or flags above 15. */
-uint32_t mb_raw_run(const uint8_t *page, size_t page_length,
+uint32_t mb_raw_run(const uint8_t *page, size_t page_length, uint64_t never_return,
                     uint8_t *ram, size_t ram_length,
                     const uint8_t *external, size_t external_length,
                     uint8_t *record, size_t record_length, uint32_t budget,
                     uint32_t *kind, uint32_t *value, uint32_t *literal,
                     uint32_t *steps);
 
-uint32_t mb_raw_step(const uint8_t *page, size_t page_length,
+uint32_t mb_raw_step(const uint8_t *page, size_t page_length, uint64_t never_return,
                      uint8_t *ram, size_t ram_length,
                      const uint8_t *external, size_t external_length,
                      uint8_t *record, size_t record_length,
@@ -171,14 +173,20 @@ void mb_raw_exit(uint32_t low, uint32_t literal,
 
 /* ---- What a host keeps
  *
- * Fields will be added: the syscalls that never return, a profile, a window of
- * RAM. So make these by their initialisers, never field by field: what those
- * give then means what it means now. */
+ * Fields will be added: a profile, a window of RAM. So make these by their
+ * initialisers, never field by field: what those give then means what it means
+ * now. */
 
-/* A filter. By mb_program_of. */
+/* A filter. By mb_program_of, after which the host may set never_return: before
+ * mb_setting_of, which copies the program, or in the setting's own program. */
 typedef struct {
     const uint8_t *page;
     size_t page_length;
+    /* The direct syscalls that never return, such as an abort: mb_syscall_bit(n) for
+     * syscall n, several joined by |. Each of them ends the flow, as a return does,
+     * and a run that stops at one keeps its place: called again as it is, it stops
+     * there again, for ever. 0 as initialised: all return. */
+    uint64_t never_return;
 } mb_program;
 
 /* What a filter runs on, RAM aside. By mb_setting_of. */
@@ -309,6 +317,7 @@ static inline mb_program mb_program_of(const uint8_t *page, size_t page_length)
     mb_program program;
     program.page = page;
     program.page_length = page_length;
+    program.never_return = 0;
     return program;
 }
 
@@ -319,6 +328,13 @@ static inline mb_setting mb_setting_of(mb_program program, const uint8_t *extern
     setting.external = external;
     setting.external_length = external_length;
     return setting;
+}
+
+/* The set of direct syscall n alone, 0 to 63, for never_return; of any other n the
+ * empty set. (1 << n would be an int's bit.) */
+static inline uint64_t mb_syscall_bit(uint32_t n)
+{
+    return n < 64 ? UINT64_C(1) << n : 0;
 }
 
 /* 01's fresh record. */
@@ -350,19 +366,20 @@ static inline uint32_t mb_version(void)
     return mb_raw_version();
 }
 
-/* The count of a page. Refused (1): count 0. */
+/* The count of a program. Refused (1): count 0. */
 static inline uint32_t mb_count(const mb_program *program, uint32_t *count)
 {
     const uint8_t own = 0;
-    return mb_raw_count(mb_internal_read(program->page, program->page_length, &own), program->page_length, count);
+    return mb_raw_count(mb_internal_read(program->page, program->page_length, &own), program->page_length,
+                        program->never_return, count);
 }
 
-/* Bundle k of a page. Refused (1, 8): a bad bundle. */
+/* Bundle k of a program. Refused (1, 8): a bad bundle. */
 static inline uint32_t mb_read_bundle(const mb_program *program, uint32_t k, mb_reading *reading)
 {
     const uint8_t own = 0;
     return mb_raw_read_bundle(mb_internal_read(program->page, program->page_length, &own), program->page_length,
-                              k, &reading->kind, &reading->largest);
+                              program->never_return, k, &reading->kind, &reading->largest);
 }
 
 /* The base of an address. Of the setting, the external data alone is looked at.
@@ -408,7 +425,7 @@ static inline uint32_t mb_run(const mb_setting *setting, uint8_t *ram, size_t ra
     uint32_t answer;
     mb_internal_pack(record, bytes);
     answer = mb_raw_run(mb_internal_read(program->page, program->page_length, &own[0]), program->page_length,
-                        mb_internal_written(ram, ram_length, &own[1]), ram_length,
+                        program->never_return, mb_internal_written(ram, ram_length, &own[1]), ram_length,
                         mb_internal_read(setting->external, setting->external_length, &own[2]),
                         setting->external_length, bytes, sizeof bytes, budget,
                         &stopped->kind, &stopped->value, &stopped->literal, &stopped->steps);

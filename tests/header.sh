@@ -15,7 +15,7 @@ trap 'rm -rf "$scratch"' EXIT
 as_c() {
     sed 's,//.*,,' "$2" | awk -v opening="$1" '
         BEGIN {
-            c["u32"] = "uint32_t "; c["&mut u32"] = c["*mut u32"] = "uint32_t *"; c["usize"] = "size_t "
+            c["u32"] = "uint32_t "; c["u64"] = "uint64_t "; c["&mut u32"] = c["*mut u32"] = "uint32_t *"; c["usize"] = "size_t "
             c["&[u8]"] = c["*const u8"] = "const uint8_t *"; c["&mut [u8]"] = c["*mut u8"] = "uint8_t *"
         }
         function parameter(text,    name, type) {
@@ -90,10 +90,13 @@ found held_header "$header" '/mb_raw_count/s/const uint8_t/uint8_t/'
 found held_header "$header" 's/uint32_t \*kind, uint32_t \*largest/uint32_t *largest, uint32_t *kind/'
 found held_header "$header" 's/uint8_t \*ram, size_t ram_length/uint8_t *record, size_t record_length/; s/uint8_t \*record, size_t record_length, uint32_t budget/uint8_t *ram, size_t ram_length, uint32_t budget/'
 found held_header "$header" 's/uint32_t k,/uint64_t k,/'
+found held_header "$header" '/mb_raw_read_bundle/s/uint64_t never_return/uint32_t never_return/'
+found held_header "$header" '/mb_raw_step/s/, uint64_t never_return//'
 found held_header "$header" 's/^uint32_t mb_raw_fresh/uint8_t mb_raw_fresh/'
 found held_header "$header" '/mb_raw_version/d'
 found held_declarations "$declarations" 's/page: \*const u8/page: *mut u8/'
 found held_declarations "$declarations" 's/value: \*mut u32/values: *mut u32/; s/literal: \*mut u32/value: *mut u32/; s/values: \*mut u32/literal: *mut u32/'
 found held_declarations "$declarations" 's/budget: u32/budget: u64/'
+found held_declarations "$declarations" 's/never_return: u64/never_return: u32/'
 found held_declarations "$declarations" 's/page_length: usize/page_length: u32/'
-echo "header.sh: $(wc -l <"$scratch/exported") declarations held to the source in C and in Rust; ten wrong ones found"
+echo "header.sh: $(wc -l <"$scratch/exported") declarations held to the source in C and in Rust; thirteen wrong ones found"

@@ -23,6 +23,12 @@ static struct areas lent, before;
 static mb_record record, record_before;
 static size_t page_length, ram_length, external_length, room_length;
 
+/* The syscalls that never return, and those of them that a test begins with. */
+static uint64_t never_return, never_return_at_first;
+
+#define BIT(n) (UINT64_C(1) << (n))
+#define ALL UINT64_MAX
+
 static void keep(void)
 {
     before = lent;
@@ -43,7 +49,13 @@ static void page_of(const uint16_t *halfwords, size_t number)
 #define HALFWORDS(...) ((const uint16_t[]){__VA_ARGS__})
 #define PAGE(...) page_of(HALFWORDS(__VA_ARGS__), sizeof HALFWORDS(__VA_ARGS__) / sizeof(uint16_t))
 
-static mb_program program(void) { return mb_program_of(lent.page, page_length); }
+static mb_program program(void)
+{
+    mb_program of = mb_program_of(lent.page, page_length);
+    of.never_return = never_return;
+    return of;
+}
+
 static mb_setting setting(void) { return mb_setting_of(program(), lent.external, external_length); }
 
 static void set_base(uint8_t kind, uint32_t offset)
@@ -79,6 +91,7 @@ static void begin(void)
     ram_length = MB_RAM_BYTES;
     external_length = 0;
     room_length = MB_RECORD_BYTES;
+    never_return = never_return_at_first;
     record = fresh_by_hand();
 }
 
@@ -172,7 +185,7 @@ static void initialisers(void)
     mb_stopped nothing = mb_nothing_run();
     mb_setting on;
     begin();
-    on = setting();
+    on = mb_setting_of(mb_program_of(lent.page, page_length), lent.external, external_length);
     CHECK(mb_version(), MB_VERSION);
     CHECK(same_record(&fresh, &by_hand), true);
     CHECK(nothing.kind, MB_STOP_BUDGET);
@@ -181,6 +194,7 @@ static void initialisers(void)
     CHECK(nothing.steps, 0);
     CHECK(on.program.page == lent.page, true);
     CHECK(on.program.page_length == page_length, true);
+    CHECK(on.program.never_return == 0, true);
     CHECK(on.external == lent.external, true);
     CHECK(on.external_length == external_length, true);
 }
@@ -217,7 +231,6 @@ static void counts(void)
     COUNT(0, 0xBF00, 0xDF01, 0x0002, 0x0000);
     COUNT(0, 0xBF00, 0xDF01, 0x0000, 0x0000);
     COUNT(0, 0xBF00, 0xDF02, 0x0001, 0x0000);
-    COUNT(0, 0xBF00, 0xDF80);
 }
 
 /* 64 bundles of nop and return: the largest page has the largest count. */
@@ -448,7 +461,7 @@ static uint32_t raw_refused(uint32_t code, mb_stopped stopped)
 static uint32_t raw_run(uint8_t *bytes, size_t length)
 {
     mb_stopped s = stale_stop;
-    uint32_t code = mb_raw_run(lent.page, page_length, lent.ram, ram_length, lent.external, external_length,
+    uint32_t code = mb_raw_run(lent.page, page_length, never_return, lent.ram, ram_length, lent.external, external_length,
                                bytes, length, 10, &s.kind, &s.value, &s.literal, &s.steps);
     return raw_refused(code, s);
 }
@@ -456,7 +469,7 @@ static uint32_t raw_run(uint8_t *bytes, size_t length)
 static uint32_t raw_step(uint8_t *bytes, size_t length)
 {
     mb_stopped s = stale_stop;
-    uint32_t code = mb_raw_step(lent.page, page_length, lent.ram, ram_length, lent.external, external_length,
+    uint32_t code = mb_raw_step(lent.page, page_length, never_return, lent.ram, ram_length, lent.external, external_length,
                                 bytes, length, &s.kind, &s.value, &s.literal, &s.steps);
     return raw_refused(code, s);
 }
@@ -550,10 +563,6 @@ static void other_stops(void)
     begin();
     PAGE(0xBF00, 0xDF01, 0x0001, 0x0000); /* a tail call keeps its place */
     STOPS(run(100000), MB_STOP_SERVICE_BY_LITERAL, 1, 1, 2);
-    CHECK(record.place, 1);
-    begin();
-    PAGE(0xDFBF, 0xDF00); /* a direct syscall moves on */
-    STOPS(run(100000), MB_STOP_SERVICE, 0xBF, 0, 1);
     CHECK(record.place, 1);
 }
 
@@ -741,6 +750,105 @@ static void order(void)
     STOPS(run(100000), MB_STOP_SERVICE, 0, 0, 4);
 }
 
+/* ---- syscalls that never return */
+
+/* Each of the 64 is counted as a terminator by its own bit, and by no other. */
+static void counts_of_syscalls(void)
+{
+    begin();
+    for (unsigned n = 0; n < 64; n++) {
+        PAGE(0xBF00, (uint16_t)(0xDF80 + n));
+        CHECK(mb_syscall_bit(n) == BIT(n), true);
+        never_return = 0;
+        check_count(__LINE__, 0);
+        BUNDLE(0, MB_ACCEPTED, MB_SUCCESSOR_LARGEST, 1);
+        never_return = BIT(n);
+        check_count(__LINE__, 1);
+        BUNDLE(0, MB_ACCEPTED, MB_SUCCESSOR_NOTHING, 0);
+        never_return = ALL - BIT(n);
+        check_count(__LINE__, 0);
+        BUNDLE(0, MB_ACCEPTED, MB_SUCCESSOR_LARGEST, 1);
+    }
+    CHECK(mb_syscall_bit(64) == 0, true);
+    CHECK(mb_syscall_bit(UINT32_MAX) == 0, true);
+    never_return = BIT(1);
+    COUNT(0, 0xBF00, 0xDF80);
+    never_return = BIT(0);
+    COUNT(1, 0xDF80, 0xDF7F); /* behind a terminator no literal is looked at */
+    COUNT(0, 0xDF80, 0xDE00); /* but what stands there must be listed */
+    never_return = 0;
+    COUNT(0, 0xDF80, 0xDF7F);
+}
+
+/* A run stops at such a syscall with the place kept, so that the next stops there again; at another it moves on. */
+static void places_of_syscalls(void)
+{
+    begin();
+    PAGE(0xBF00, 0xDF80, 0xBF00, 0xDF00);
+    set_base(MB_BASE_RAM, 8);
+    keep();
+    never_return = BIT(0);
+    STOPS(run(100000), MB_STOP_SERVICE, 0x80, 0, 2);
+    record_before.place = 1;
+    record_before.base.kind = MB_BASE_NONE;
+    record_before.base.offset = 0;
+    CHECK(changed(), 0);
+    STOPS(step(), MB_STOP_SERVICE, 0x80, 0, 1);
+    CHECK(changed(), 0);
+    never_return = BIT(63);
+    STOPS(run(100000), MB_STOP_SERVICE, 0x80, 0, 1);
+    record_before.place = 2;
+    CHECK(changed(), 0);
+    record.place = 0;
+    never_return = 0;
+    STOPS(run(100000), MB_STOP_SERVICE, 0x80, 0, 2);
+    CHECK(changed(), 0);
+}
+
+/* The second half behind such a syscall is no place; behind another it is. */
+static void places_behind_syscalls(void)
+{
+    begin();
+    PAGE(0xDFBF, 0xDF00);
+    record.place = 1;
+    never_return = BIT(63);
+    REFUSED(MB_REFUSED_UNFIT_PLACE);
+    never_return = ALL;
+    REFUSED(MB_REFUSED_UNFIT_PLACE);
+    never_return = ALL - BIT(63);
+    STOPS(run(100000), MB_STOP_SERVICE, 0, 0, 1);
+    CHECK(record.place, 1);
+    record.place = 0;
+    STOPS(run(100000), MB_STOP_SERVICE, 0xBF, 0, 1);
+    CHECK(record.place, 1);
+    record.place = 0;
+    never_return = ALL;
+    STOPS(run(100000), MB_STOP_SERVICE, 0xBF, 0, 1);
+    CHECK(record.place, 0);
+}
+
+/* No other service goes by the set. The halfword, its literal, the place behind it. */
+static void other_services(void)
+{
+    const struct { uint16_t halfword; uint16_t literal[2]; uint16_t place; } services[] = {
+        {0xDF00, {0, 0}, 0}, {0xDFE8, {0, 0}, 1}, {0xDFF0, {0, 0}, 1}, {0xDFF7, {0, 0}, 1}, {0xDFF8, {0, 0}, 0},
+        {0xDF01, {0, 0}, 1}, {0xDF01, {1, 0}, 0}, /* call, tail call */
+        {0xDF01, {0, 0x8000}, 1}, {0xDF01, {1, 0x8000}, 0}, /* syscall, tail syscall */
+    };
+    for (size_t i = 0; i < sizeof services / sizeof services[0]; i++) {
+        begin();
+        never_return = ALL;
+        PAGE(services[i].halfword, 0xDF00, services[i].literal[0], services[i].literal[1]);
+        CHECK(run(100000).stopped.value, services[i].halfword & 0xFFu);
+        CHECK(record.place, services[i].place);
+    }
+    COUNT(0, 0xBF00, 0xDFC0);
+    COUNT(0, 0xBF00, 0xDFE0);
+    COUNT(0, 0xBF00, 0xDFE8);
+    COUNT(0, 0xBF00, 0xDFF0);
+    COUNT(0, 0xBF00, 0xDF01, 0x0000, 0x8000);
+}
+
 /* ---- null pointers with length 0 */
 
 static void null_page_and_data(void)
@@ -846,9 +954,14 @@ int main(void)
         printed_run, budget_zero, slices, other_stops, movw, blt, word_store,
         earlier_stores_stay, base_by_service, external_load, other_faults,
         refused_lengths, refused_records, refused_places, order,
+        counts_of_syscalls, places_of_syscalls, places_behind_syscalls, other_services,
         null_page_and_data, null_in_runs, null_rooms, exits, no_exits, exits_of_stops,
     };
-    for (size_t i = 0; i < sizeof tests / sizeof tests[0]; i++)
-        tests[i]();
+    /* Pages without direct syscalls, as most tests have, answer the same whatever the set. */
+    const uint64_t sets[] = {0, ALL};
+    for (size_t i = 0; i < 2 * (sizeof tests / sizeof tests[0]); i++) {
+        never_return_at_first = sets[i % 2];
+        tests[i / 2]();
+    }
     return outcome("host.c");
 }

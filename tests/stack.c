@@ -17,13 +17,14 @@ static void (*measured)(void);
 /* What is lent to the calls. */
 static uint8_t page[MB_PAGE_MOST], ram[MB_RAM_BYTES], external[256], record[MB_RECORD_BYTES], room[MB_RECORD_BYTES];
 static size_t page_length;
+static const uint64_t never_return = 1; /* syscall 0, and not 1, which the page has */
 static uint32_t code, numbers[5];
 static mb_stopped stopped;
 
 /* ---- the calls, each of which leaves 0 in code */
 
 static void version(void) { code = mb_raw_version() - MB_VERSION; }
-static void count(void) { code = mb_raw_count(page, page_length, &numbers[0]); }
+static void count(void) { code = mb_raw_count(page, page_length, never_return, &numbers[0]); }
 static void validate(void) { code = mb_raw_validate(0x80000001, external, sizeof external, &numbers[0], &numbers[1]); }
 static void fresh(void) { code = mb_raw_fresh(record, sizeof record); }
 static void store(void) { code = mb_raw_store(record, sizeof record, room, sizeof room); }
@@ -32,7 +33,7 @@ static void load(void) { code = mb_raw_load(room, sizeof room, record, sizeof re
 static void read_bundle(void)
 {
     for (uint32_t k = 0; k < page_length / 4; k++)
-        code = mb_raw_read_bundle(page, page_length, k, &numbers[0], &numbers[1]);
+        code = mb_raw_read_bundle(page, page_length, never_return, k, &numbers[0], &numbers[1]);
 }
 
 static void decode_exit(void)
@@ -41,21 +42,23 @@ static void decode_exit(void)
         mb_raw_exit(low, 0x80070001, &numbers[0], &numbers[1], &numbers[2], &numbers[3], &numbers[4]);
 }
 
-/* The page from its start to its exit. */
+/* The page goes on behind a direct syscall, up to its exit by a literal. */
 static void run(void)
 {
     fresh();
-    code = mb_raw_run(page, page_length, ram, sizeof ram, external, sizeof external, record, sizeof record, 1000,
-                      &stopped.kind, &stopped.value, &stopped.literal, &stopped.steps);
+    do {
+        code = mb_raw_run(page, page_length, never_return, ram, sizeof ram, external, sizeof external,
+                          record, sizeof record, 1000, &stopped.kind, &stopped.value, &stopped.literal, &stopped.steps);
+    } while (stopped.kind == MB_STOP_SERVICE);
 }
 
 static void steps(void)
 {
     fresh();
     do {
-        code = mb_raw_step(page, page_length, ram, sizeof ram, external, sizeof external, record, sizeof record,
-                           &stopped.kind, &stopped.value, &stopped.literal, &stopped.steps);
-    } while (stopped.kind == MB_STOP_BUDGET);
+        code = mb_raw_step(page, page_length, never_return, ram, sizeof ram, external, sizeof external,
+                           record, sizeof record, &stopped.kind, &stopped.value, &stopped.literal, &stopped.steps);
+    } while (stopped.kind == MB_STOP_BUDGET || stopped.kind == MB_STOP_SERVICE);
 }
 
 /* No call: it takes more than any may. */
@@ -104,7 +107,7 @@ static void lend(void)
         0xBF00, 0xDFE1, 0xF8C9, 0x1000, 0xF8D8, 0x2000, 0xF9B9, 0x3001, /* 3 to 6: stores and loads by the base */
         0x9001, 0x9801, 0x4801, 0xA802, /* 7, 8: by SP, and from the page */
         0xFBB1, 0xF2F3, 0x4148, 0x41C8, /* 9, 10: udiv, adc, ror */
-        0xDF11, 0xDF12, 0xDF13, 0xDF14, 0xDF15, 0xBF00, /* 11 to 13: literal operations 1 to 5 */
+        0xDF11, 0xDF12, 0xDF13, 0xDF14, 0xDF15, 0xDF81, /* 11 to 13: literal operations 1 to 5; a direct syscall */
         0x2C01, 0xD001, 0x2401, 0xE7E1, /* 14, 15: once more from bundle 1 */
         0xBF00, 0xDF16, /* 16: tail syscall by its literal */
         0x0000, 0xC100, 0x0000, 0xC201, 0x0001, 0xC300, 0x0004, 0xC420, 0x0004, 0xC540, 0x0001, 0x8007, /* literals */

@@ -1,12 +1,13 @@
 //! A host to copy: it keeps the departures of pressure that a filter lets pass.
 //! The filter is `examples/departures.page`, named by the one argument: for each
 //! pair of observation and background in the external data it takes the
-//! departure, holds it to two limits, and tells the verdict by a syscall.
+//! departure, holds it to two limits, and tells the verdict by a syscall. Given no
+//! pair, it aborts: by a syscall that never returns, as the host says of it.
 
 use std::error::Error;
 use std::process::ExitCode;
 
-use marshbodkin::{version, Exit, Program, Record, Setting, Stop, VERSION};
+use marshbodkin::{syscall_bit, version, Exit, Program, Record, Setting, Stop, VERSION};
 use marshbodkin::{BUNDLE_LENGTH, EXTERNAL_PAGE_LENGTH, EXTERNAL_START, RAM_LENGTH};
 
 type Outcome = Result<(), Box<dyn Error>>;
@@ -15,6 +16,9 @@ type Outcome = Result<(), Box<dyn Error>>;
 const SLICE: u32 = 20;
 /// Steps of a cycle, lest a filter loop for ever.
 const MOST_STEPS: u32 = 1000;
+
+/// The filter's syscall that never returns.
+const ABORT: u32 = 63;
 
 /// The filter's registers.
 const NEXT_PAIR: usize = 0;
@@ -71,7 +75,7 @@ struct Host<'a> {
 }
 
 impl Host<'_> {
-    /// Runs the filter slice by slice until it returns or faults.
+    /// Runs the filter slice by slice until it returns, aborts or faults.
     fn cycle(&mut self, record: &mut Record) -> Outcome {
         let mut steps = 0;
         while steps <= MOST_STEPS {
@@ -85,6 +89,10 @@ impl Host<'_> {
                 }
                 (_, Some(Exit::Return)) => {
                     println!("return after {steps} steps");
+                    return Ok(());
+                }
+                (_, Some(Exit::DirectSyscall { number: ABORT })) => {
+                    println!("abort after {steps} steps");
                     return Ok(());
                 }
                 (_, Some(exit)) => self.serve(exit, record)?,
@@ -124,8 +132,9 @@ impl Host<'_> {
 }
 
 /// Points the filter at some pairs. A record that the host changed starts a new
-/// series of calls, of which the same is proved. A return leaves the stack to
-/// the host, and a fault leaves the base.
+/// series of calls, of which the same is proved. Return, fault and abort leave
+/// the place where they stand; a return leaves the stack to the host, a fault
+/// leaves the base.
 fn begin(record: &mut Record, first: usize, pairs: u32) {
     *record = Record {
         registers: record.registers,
@@ -135,7 +144,7 @@ fn begin(record: &mut Record, first: usize, pairs: u32) {
     record.registers[PAIRS_LEFT] = pairs;
 }
 
-/// Two cycles of the filter, with the record saved between them.
+/// Three cycles of the filter, with the record saved after the first.
 fn cycles(host: &mut Host) -> Outcome {
     let mut record = Record::default();
     record.registers[UPPER_LIMIT] = word_of(6.0);
@@ -149,6 +158,10 @@ fn cycles(host: &mut Host) -> Outcome {
     println!("cycle 2");
     // The host's mistake: two pairs are left, not three.
     begin(&mut record, 30, 3);
+    host.cycle(&mut record)?;
+    println!("cycle 3");
+    // Another: without a pair the filter would count down from 0.
+    begin(&mut record, 0, 0);
     host.cycle(&mut record)
 }
 
@@ -159,7 +172,8 @@ fn show() -> Outcome {
     }
     let path = std::env::args().nth(1).ok_or("usage: host PAGE")?;
     let page = std::fs::read(&path).map_err(|error| format!("{path}: {error}"))?;
-    let (program, external) = (Program::new(&page), external_data());
+    let program = Program::new(&page).never_return(syscall_bit(ABORT));
+    let external = external_data();
     let bundles = page.len() / BUNDLE_LENGTH;
     println!("count {} of {bundles} bundles", program.count()?);
     let mut host = Host {

@@ -49,7 +49,7 @@ pub enum Exit {
     },
     /// A syscall by the low byte alone.
     DirectSyscall {
-        /// 0 to 63.
+        /// 0 to 63, its bit in [`Program::never_return`](crate::Program::never_return).
         number: u32,
     },
     /// A breakpoint.

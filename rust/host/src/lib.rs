@@ -43,8 +43,11 @@
 //! ```
 //!
 //! A host that changes the record between calls, say to hand in the results of a
-//! syscall, starts a new series of calls with it: what is proved of a series
+//! syscall, or the setting, starts a new series of calls with it: what is proved of a series
 //! holds from any fit record and place. `examples/host.rs` is such a host.
+//!
+//! Every direct syscall returns unless the host says otherwise:
+//! [`Program::never_return`].
 //!
 //! Programs, settings, records and enums will gain parts; hosts that make the
 //! first three as shown here, and match enums with `_` last, stay right.
@@ -82,10 +85,21 @@ pub const EXTERNAL_PAGE_LENGTH: usize = 256;
 /// The address of the first byte of external data.
 pub const EXTERNAL_START: u32 = 0x8000_0000;
 
-/// The version of these calls: 65536 * major + 256 * minor + patch.
-pub const VERSION: u32 = 0x00_02_00;
+/// The set of direct syscall n alone, 0 to 63, for [`Program::never_return`]; of
+/// any other n the empty set.
+pub const fn syscall_bit(n: u32) -> u64 {
+    if n < 64 {
+        1 << n
+    } else {
+        0
+    }
+}
 
-/// The version of the archive that is linked, to be held against [`VERSION`].
+/// The version of these calls: 65536 * major + 256 * minor + patch.
+pub const VERSION: u32 = 0x00_03_00;
+
+/// The version of the archive that is linked, to be held against [`VERSION`]
+/// before any other call.
 pub fn version() -> u32 {
     raw::version()
 }

@@ -36,28 +36,52 @@ impl Reading {
     }
 }
 
-/// A page, which is code up to its count.
+/// A page, which is code up to its count, and the syscalls that never return.
 #[derive(Clone, Copy, Debug)]
 pub struct Program<'a> {
     page: &'a [u8],
+    never_return: u64,
 }
 
 impl<'a> Program<'a> {
-    /// The program of a page. Any bytes will do here; calls refuse them.
+    /// The program of a page, where every direct syscall returns. Any bytes
+    /// will do here; calls refuse them.
     pub fn new(page: &'a [u8]) -> Program<'a> {
-        Program { page }
+        let never_return = 0;
+        Program { page, never_return }
+    }
+
+    /// The same where the direct syscalls of a set never return, each by its
+    /// [`syscall_bit`](crate::syscall_bit), several joined by `|`; the set takes
+    /// the place of one given before. Each of them ends the flow, as a return
+    /// does, and a run that stops at one keeps its place there.
+    ///
+    /// ```
+    /// use marshbodkin::{syscall_bit, Program};
+    ///
+    /// let program = Program::new(&[0x00, 0xBF, 0x80, 0xDF]); // BF00 DF80
+    /// assert_eq!(program.count(), Ok(0));
+    /// assert_eq!(program.never_return(syscall_bit(0)).count(), Ok(1));
+    /// ```
+    #[must_use]
+    pub fn never_return(self, set: u64) -> Program<'a> {
+        let never_return = set;
+        Program {
+            never_return,
+            ..self
+        }
     }
 
     /// How many bundles are code. Refusal: 1.
     pub fn count(&self) -> Result<u32, Refusal> {
-        let (code, count) = raw::count(self.page);
+        let (code, count) = raw::count(self.page, self.never_return);
         verdict(code)?;
         Ok(count)
     }
 
     /// Reads a bundle. Refusals: 1, 8.
     pub fn read_bundle(&self, bundle: u32) -> Result<Reading, Refusal> {
-        let (code, kind, largest) = raw::read_bundle(self.page, bundle);
+        let (code, kind, largest) = raw::read_bundle(self.page, self.never_return, bundle);
         verdict(code)?;
         Ok(Reading::of(kind, largest))
     }
@@ -101,16 +125,18 @@ impl<'a> Setting<'a> {
         record: &mut Record,
         budget: u32,
     ) -> Result<Stopped, Refusal> {
-        let page = self.program.page;
+        let Program { page, never_return } = self.program;
         crossing(record, |bytes| {
-            raw::run(page, ram, self.external, bytes, budget)
+            raw::run(page, never_return, ram, self.external, bytes, budget)
         })
     }
 
     /// One step: a run with budget 1.
     pub fn step(&self, ram: &mut [u8], record: &mut Record) -> Result<Stopped, Refusal> {
-        let page = self.program.page;
-        crossing(record, |bytes| raw::step(page, ram, self.external, bytes))
+        let Program { page, never_return } = self.program;
+        crossing(record, |bytes| {
+            raw::step(page, never_return, ram, self.external, bytes)
+        })
     }
 }
 

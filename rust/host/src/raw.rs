@@ -2,7 +2,8 @@
 //!
 //! A record crosses as 44 bytes. Each call but [`exit`] and [`version`] answers
 //! 0 (accepted) or the number of a refusal; a step and a run also 255, where bytes
-//! hold no record. This is the one module with `unsafe`.
+//! hold no record. Bit n of `never_return` says that direct syscall n never returns.
+//! This is the one module with `unsafe`.
 
 use marshbodkin_sys::{
     mb_raw_count, mb_raw_exit, mb_raw_fresh, mb_raw_load, mb_raw_read_bundle, mb_raw_run,
@@ -53,18 +54,27 @@ pub struct ExitNumbers {
 // are the functions' own, as `tests/header.sh` sees to.
 
 /// The answer and the count.
-pub fn count(page: &[u8]) -> (u32, u32) {
+pub fn count(page: &[u8], never_return: u64) -> (u32, u32) {
     let mut count = 0;
     // SAFETY: a slice and a local, as above.
-    let code = unsafe { mb_raw_count(page.as_ptr(), page.len(), &mut count) };
+    let code = unsafe { mb_raw_count(page.as_ptr(), page.len(), never_return, &mut count) };
     (code, count)
 }
 
 /// The answer, the kind (0 bad, 1 no successor, 2 the largest), the largest.
-pub fn read_bundle(page: &[u8], k: u32) -> (u32, u32, u32) {
+pub fn read_bundle(page: &[u8], never_return: u64, k: u32) -> (u32, u32, u32) {
     let (mut kind, mut largest) = (0, 0);
     // SAFETY: a slice and two locals, as above.
-    let code = unsafe { mb_raw_read_bundle(page.as_ptr(), page.len(), k, &mut kind, &mut largest) };
+    let code = unsafe {
+        mb_raw_read_bundle(
+            page.as_ptr(),
+            page.len(),
+            never_return,
+            k,
+            &mut kind,
+            &mut largest,
+        )
+    };
     (code, kind, largest)
 }
 
@@ -103,13 +113,21 @@ pub fn load(stored: &[u8], record: &mut [u8]) -> u32 {
 }
 
 /// A run with a budget.
-pub fn run(page: &[u8], ram: &mut [u8], external: &[u8], record: &mut [u8], budget: u32) -> Answer {
+pub fn run(
+    page: &[u8],
+    never_return: u64,
+    ram: &mut [u8],
+    external: &[u8],
+    record: &mut [u8],
+    budget: u32,
+) -> Answer {
     let mut answer = Answer::default();
     // SAFETY: slices, `&mut` slices and four parts of a local, as above.
     answer.code = unsafe {
         mb_raw_run(
             page.as_ptr(),
             page.len(),
+            never_return,
             ram.as_mut_ptr(),
             ram.len(),
             external.as_ptr(),
@@ -127,13 +145,20 @@ pub fn run(page: &[u8], ram: &mut [u8], external: &[u8], record: &mut [u8], budg
 }
 
 /// One step.
-pub fn step(page: &[u8], ram: &mut [u8], external: &[u8], record: &mut [u8]) -> Answer {
+pub fn step(
+    page: &[u8],
+    never_return: u64,
+    ram: &mut [u8],
+    external: &[u8],
+    record: &mut [u8],
+) -> Answer {
     let mut answer = Answer::default();
     // SAFETY: slices, `&mut` slices and four parts of a local, as above.
     answer.code = unsafe {
         mb_raw_step(
             page.as_ptr(),
             page.len(),
+            never_return,
             ram.as_mut_ptr(),
             ram.len(),
             external.as_ptr(),

@@ -1,8 +1,8 @@
 //! Each call against 01: what it answers, and each refusal it has.
 
 use marshbodkin::{
-    raw, Base, Exit, Fault, Flags, Program, Reading, Record, Refusal, Setting, Stop, Stopped,
-    RAM_LENGTH, RECORD_LENGTH,
+    raw, syscall_bit, Base, Exit, Fault, Flags, Program, Reading, Record, Refusal, Setting, Stop,
+    Stopped, RAM_LENGTH, RECORD_LENGTH,
 };
 
 /// 01's printed page: four bundles, of which three are counted.
@@ -173,6 +173,58 @@ fn a_step_is_a_run_with_budget_1() {
     assert_eq!(places, [1, 4, 5, 5]);
 }
 
+/// Each of the 64 ends the flow by its own bit, and by no other.
+#[test]
+fn counts_of_syscalls_that_never_return() {
+    for n in 0..64 {
+        let page = page_of(&[0xBF00, 0xDF80 + n]);
+        let program = Program::new(&page);
+        let bit = 1 << n;
+        assert_eq!(syscall_bit(n.into()), bit);
+        for goes_on in [program, program.never_return(!bit)] {
+            assert_eq!(goes_on.count(), Ok(0));
+            assert_eq!(goes_on.read_bundle(0), Ok(Reading::Largest(1)));
+        }
+        for ends in [program.never_return(bit), program.never_return(u64::MAX)] {
+            assert_eq!(ends.count(), Ok(1));
+            assert_eq!(ends.read_bundle(0), Ok(Reading::Nothing));
+        }
+    }
+    assert_eq!((syscall_bit(64), syscall_bit(u32::MAX)), (0, 0));
+}
+
+/// A step and a run of a page where the syscalls of a set never return: both
+/// stop at its first service, and leave the same place.
+fn place_after(halfwords: &[u16], set: u64, low: u8) -> u16 {
+    let page = page_of(halfwords);
+    let setting = Setting::new(Program::new(&page).never_return(set));
+    let (mut ram, mut stepped, mut ran) = (filled_ram(), Record::default(), Record::default());
+    let exited = Ok((service(low, None), 1));
+    assert_eq!(outcome(setting.step(&mut ram, &mut stepped)), exited);
+    assert_eq!(outcome(setting.run(&mut ram, &mut ran, 9)), exited);
+    assert_eq!(stepped, ran);
+    ran.place
+}
+
+#[test]
+fn places_at_syscalls_that_never_return() {
+    assert_eq!(place_after(&[0xDFBF, 0xDF00], 1 << 63, 0xBF), 0);
+    assert_eq!(place_after(&[0xDFBF, 0xDF00], u64::MAX >> 1, 0xBF), 1);
+    assert_eq!(place_after(&[0xDFE8, 0xDF00], u64::MAX, 0xE8), 1);
+    assert_eq!(place_after(&[0xDFF0, 0xDF00], u64::MAX, 0xF0), 1);
+
+    let page = page_of(&[0xDFBF, 0xDF00]);
+    let program = Program::new(&page);
+    let behind = Record {
+        place: 1,
+        ..Record::default()
+    };
+    let ended = Setting::new(program.never_return(1 << 63));
+    check_refused(Refusal::UnfitPlace, ended, RAM_LENGTH, behind);
+    let ran = Setting::new(program).run(&mut filled_ram(), &mut { behind }, 9);
+    assert_eq!(outcome(ran), returned(1));
+}
+
 #[test]
 fn faults() {
     let with = |base, sp| Record {
@@ -333,14 +385,14 @@ fn no_record() {
     let mut ram = filled_ram();
     let mut bytes = [0xFF; RECORD_LENGTH];
     for (page, code) in [(&[0][..], 1), (&[], 255)] {
-        let ran = raw::run(page, &mut ram, &[], &mut bytes, 9);
+        let ran = raw::run(page, 0, &mut ram, &[], &mut bytes, 9);
         assert_eq!(ran, refused(code));
-        let stepped = raw::step(page, &mut ram, &[], &mut bytes);
+        let stepped = raw::step(page, u64::MAX, &mut ram, &[], &mut bytes);
         assert_eq!(stepped, refused(code));
     }
-    let short = raw::run(&[], &mut ram[1..], &[], &mut bytes, 9);
+    let short = raw::run(&[], 0, &mut ram[1..], &[], &mut bytes, 9);
     assert_eq!(short, refused(2));
-    assert_eq!(raw::run(&[], &mut ram, &[0], &mut bytes, 9), refused(3));
+    assert_eq!(raw::run(&[], 0, &mut ram, &[0], &mut bytes, 9), refused(3));
     assert_eq!(raw::store(&bytes, &mut ram), 6);
     assert_eq!(raw::store(&bytes, &mut ram[..RECORD_LENGTH]), 7);
     assert_eq!(raw::load(&[], &mut bytes[1..]), 6);

@@ -18,13 +18,20 @@
 // Nothing checks these against the archive when it is linked: `tests/header.sh`
 // compares them with the source.
 extern "C" {
-    /// The count of a page.
-    pub fn mb_raw_count(page: *const u8, page_length: usize, count: *mut u32) -> u32;
+    /// The count of a page. Here and below, bit n of `never_return` says that
+    /// direct syscall n never returns.
+    pub fn mb_raw_count(
+        page: *const u8,
+        page_length: usize,
+        never_return: u64,
+        count: *mut u32,
+    ) -> u32;
 
     /// Bundle k of a page: kind 0 bad, 1 no successor, 2 the largest successor.
     pub fn mb_raw_read_bundle(
         page: *const u8,
         page_length: usize,
+        never_return: u64,
         k: u32,
         kind: *mut u32,
         largest: *mut u32,
@@ -63,6 +70,7 @@ extern "C" {
     pub fn mb_raw_run(
         page: *const u8,
         page_length: usize,
+        never_return: u64,
         ram: *mut u8,
         ram_length: usize,
         external: *const u8,
@@ -80,6 +88,7 @@ extern "C" {
     pub fn mb_raw_step(
         page: *const u8,
         page_length: usize,
+        never_return: u64,
         ram: *mut u8,
         ram_length: usize,
         external: *const u8,
