@@ -23,11 +23,14 @@ must_differ() {
 }
 
 ./target/release/programs "$lister" "$runner" "$@"
-must_differ ./target/release/programs --break lt-from-n "$lister" "$runner"
-echo "deliberate mistake found"
+for name in lt-from-n set-complement; do
+    must_differ ./target/release/programs --break "$name" "$lister" "$runner"
+done
+echo "deliberate mistakes found"
 
 ./target/release/library ${1+"$1"}
-for name in lt-from-n first-successor count-one-less base-one-off place-128 imm15-unshifted; do
+for name in lt-from-n first-successor count-one-less base-one-off place-128 imm15-unshifted \
+    set-one-off set-complement count-without-set run-without-set last-moves-on; do
     must_differ ./target/release/library --break "$name" ${1+"$1"}
 done
 echo "deliberate mistakes found"

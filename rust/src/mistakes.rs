@@ -4,12 +4,12 @@ use crate::second::arith::{condition_passed, Flags};
 use crate::second::count::{count, successors, Reading};
 use crate::second::exits::{exit_of, Exit};
 use crate::second::memory::validate;
-use crate::second::page::Page;
+use crate::second::page::{NeverReturn, Page};
 use crate::second::record::{Base, Record, LAST_PLACE};
 use crate::second::rules::Rules;
 
 /// Each mistake's name, and the rules with it.
-pub const MISTAKES: [(&str, Rules); 6] = [
+pub const MISTAKES: [(&str, Rules); 11] = [
     (
         "lt-from-n",
         Rules {
@@ -28,6 +28,43 @@ pub const MISTAKES: [(&str, Rules); 6] = [
         "count-one-less",
         Rules {
             count: count_one_less,
+            ..Rules::RIGHT
+        },
+    ),
+    (
+        "set-one-off",
+        Rules {
+            counted: one_off,
+            run: one_off,
+            ..Rules::RIGHT
+        },
+    ),
+    (
+        "set-complement",
+        Rules {
+            counted: complement,
+            run: complement,
+            ..Rules::RIGHT
+        },
+    ),
+    (
+        "count-without-set",
+        Rules {
+            counted: |_| NeverReturn::NONE,
+            ..Rules::RIGHT
+        },
+    ),
+    (
+        "run-without-set",
+        Rules {
+            run: |_| NeverReturn::NONE,
+            ..Rules::RIGHT
+        },
+    ),
+    (
+        "last-moves-on",
+        Rules {
+            stays: last_moves_on,
             ..Rules::RIGHT
         },
     ),
@@ -83,6 +120,21 @@ fn count_one_less(page: Page) -> usize {
         64 => 63,
         right => right,
     }
+}
+
+/// Bit n + 1 stands for syscall n.
+fn one_off(set: NeverReturn) -> NeverReturn {
+    NeverReturn(set.0 >> 1)
+}
+
+/// The set holds those that return.
+fn complement(set: NeverReturn) -> NeverReturn {
+    NeverReturn(!set.0)
+}
+
+/// The place moves on at every direct syscall, though the count ends there.
+fn last_moves_on(exit: Exit, _: NeverReturn) -> bool {
+    exit.is_terminator(NeverReturn::NONE)
 }
 
 /// A RAM base lies one byte further.

@@ -3,14 +3,15 @@
 
 use std::collections::BTreeMap;
 
+use marshbodkin_check::compare::sets;
 use marshbodkin_check::mistakes;
-use marshbodkin_check::random::{self, DEFAULT_SEED};
+use marshbodkin_check::random::{self, Random, DEFAULT_SEED};
 use marshbodkin_check::second::arith::{condition_passed, Flags};
 use marshbodkin_check::second::count::{count, read_bundle, Reading};
 use marshbodkin_check::second::decode::{narrow, opens_wide, wide, DataOp, Instruction};
 use marshbodkin_check::second::machine::{step, Stop};
 use marshbodkin_check::second::memory::RAM_SIZE;
-use marshbodkin_check::second::page::Page;
+use marshbodkin_check::second::page::{Code, Page};
 use marshbodkin_check::second::record::Record;
 use marshbodkin_check::second::rules::Rules;
 use marshbodkin_check::second::text;
@@ -84,9 +85,10 @@ fn single_pass(page: Page) -> usize {
 
 #[test]
 fn count_equals_the_single_pass() {
+    let mut random = Random::new(DEFAULT_SEED);
     for number in 0..3000 {
         let bytes = random::page(DEFAULT_SEED, number);
-        if let Some(page) = Page::new(&bytes) {
+        if let Some(page) = Page::new(Code::new(&bytes, sets::any(&mut random))) {
             assert_eq!(count(page), single_pass(page), "page {number}");
         }
     }
@@ -135,10 +137,11 @@ fn at_place(page: Page, record: &Record) -> Option<Instruction> {
 
 /// Counts what the first steps of a page execute.
 fn trace(bytes: &[u8], seen: &mut BTreeMap<String, u32>) {
-    let Some(page) = Page::new(bytes) else { return };
+    let code = Code::plain(bytes);
+    let Some(page) = Page::new(code) else { return };
     let (mut ram, mut record) = (vec![0; RAM_SIZE], Record::fresh());
     for _ in 0..300 {
-        let answer = step(bytes, &mut ram, &[], &record);
+        let answer = step(code, &mut ram, &[], &record);
         if answer.steps == 1 {
             let instruction = at_place(page, &record).expect("a listed instruction");
             *seen.entry(name(instruction, record.flags)).or_default() += 1;

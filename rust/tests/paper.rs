@@ -6,6 +6,7 @@ use marshbodkin_check::second::arith::Flags;
 use marshbodkin_check::second::count::{count_of, read_bundle_of, Reading};
 use marshbodkin_check::second::machine::{Answer, Stop};
 use marshbodkin_check::second::memory::{validate, validate_with, Fault};
+use marshbodkin_check::second::page::Code;
 use marshbodkin_check::second::record::Base;
 use marshbodkin_check::second::rules::Rules;
 use marshbodkin_check::second::text;
@@ -35,7 +36,7 @@ const RETURNED: Stop = Stop::Service {
 fn counts_of_the_papers_pages() {
     for page in paper::PAGES {
         assert_eq!(
-            count_of(RIGHT, &page.bytes()),
+            count_of(RIGHT, Code::plain(&page.bytes())),
             (page.count, None),
             "{}",
             page.name
@@ -73,13 +74,11 @@ fn refusals_are_one_line() {
 
 #[test]
 fn reader_refusals() {
-    assert_eq!(read_bundle_of(RIGHT, &[0; 3], 0), (Reading::Bad, Some(1)));
-    assert_eq!(read_bundle_of(RIGHT, &[0; 4], 1), (Reading::Bad, Some(8)));
-    assert_eq!(
-        read_bundle_of(RIGHT, &[0; 4], 0),
-        (Reading::Largest(1), None)
-    );
-    assert_eq!(count_of(RIGHT, &[0; 257]), (0, Some(1)));
+    let read = |page, bundle| read_bundle_of(RIGHT, Code::plain(page), bundle);
+    assert_eq!(read(&[0; 3], 0), (Reading::Bad, Some(1)));
+    assert_eq!(read(&[0; 4], 1), (Reading::Bad, Some(8)));
+    assert_eq!(read(&[0; 4], 0), (Reading::Largest(1), None));
+    assert_eq!(count_of(RIGHT, Code::plain(&[0; 257])), (0, Some(1)));
 }
 
 #[test]

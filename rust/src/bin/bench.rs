@@ -12,6 +12,7 @@ use marshbodkin_check::random;
 use marshbodkin_check::second::count::count_of;
 use marshbodkin_check::second::machine::{run, Stop};
 use marshbodkin_check::second::memory::RAM_SIZE;
+use marshbodkin_check::second::page::Code;
 use marshbodkin_check::second::record::{stored_bytes, Record};
 use marshbodkin_check::second::rules::Rules;
 
@@ -141,13 +142,19 @@ fn runs(page: &[u8], budget: u32, times: usize) -> Taken {
         || {
             for _ in 0..times {
                 let mut record = stored_bytes(&fresh);
-                let answer = raw::run(black_box(page), &mut ram, &[], &mut record, budget);
+                let answer = raw::run(black_box(page), 0, &mut ram, &[], &mut record, budget);
                 assert_eq!((answer.kind, answer.steps), (0, budget));
             }
         },
         || {
             for _ in 0..times {
-                let answer = run(black_box(page), &mut other, &[], &fresh, budget);
+                let answer = run(
+                    Code::plain(black_box(page)),
+                    &mut other,
+                    &[],
+                    &fresh,
+                    budget,
+                );
                 assert_eq!((answer.stop, answer.steps), (Stop::Budget, budget));
             }
         },
@@ -159,12 +166,12 @@ fn counts(pages: &[Vec<u8>], times: usize) -> Taken {
     measure(
         || {
             for page in pages.iter().cycle().take(times) {
-                black_box(raw::count(black_box(page)));
+                black_box(raw::count(black_box(page), 0));
             }
         },
         || {
             for page in pages.iter().cycle().take(times) {
-                black_box(count_of(Rules::RIGHT, black_box(page)));
+                black_box(count_of(Rules::RIGHT, Code::plain(black_box(page))));
             }
         },
     )

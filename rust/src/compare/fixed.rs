@@ -4,6 +4,7 @@
 use super::sides::{Handed, Rams};
 use super::{Comparison, Same};
 use crate::paper::{PaperPage, PAGES};
+use crate::second::page::Code;
 use crate::second::record::{stored_bytes, Record};
 use crate::second::text::BUDGET;
 
@@ -21,16 +22,17 @@ pub fn compare(comparison: &mut Comparison) -> Same {
 /// All that is compared on one page.
 fn one_page(comparison: &mut Comparison, page: &PaperPage) -> Same {
     let bytes = page.bytes();
-    let count = comparison.count(&bytes)?;
+    let code = Code::plain(&bytes);
+    let count = comparison.count(code)?;
     if count as usize != page.count {
         return Err(format!("both sides count {count}, 01 {}", page.count));
     }
     for bundle in 0..=page.bundles.len() as u32 {
-        comparison.read(&bytes, bundle)?;
+        comparison.read(code, bundle)?;
     }
     let fresh = stored_bytes(&Record::fresh());
     let handed = Handed {
-        page: &bytes,
+        code,
         external: &[],
         record: &fresh,
         budget: BUDGET,

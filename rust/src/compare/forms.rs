@@ -6,6 +6,7 @@ use super::sides::{Handed, Rams};
 use super::{Comparison, Same};
 use crate::assemble::{self as asm, page_bytes};
 use crate::random::Random;
+use crate::second::page::Code;
 use crate::second::record::{stored_bytes, Base, Record, MOST_EXTERNAL, STORED};
 
 /// How many random records are stored and read back.
@@ -60,8 +61,9 @@ fn one_form(comparison: &mut Comparison, bytes: &[u8], rams: &mut Rams) -> Same 
 
 /// A step from the bytes; the places up to 125 are fit.
 fn step(comparison: &mut Comparison, bytes: &[u8], rams: &mut Rams) -> Same {
+    let page = page_bytes(&[[asm::NOP, asm::RETURN]; 63]);
     let handed = Handed {
-        page: &page_bytes(&[[asm::NOP, asm::RETURN]; 63]),
+        code: Code::plain(&page),
         external: &[0; 512],
         record: bytes,
         budget: 1,

@@ -2,9 +2,9 @@
 //! bytes on both sides. No expected answer comes from the library.
 //!
 //! - [`sides`]: each call on both sides, and [`report`] for a difference.
-//! - [`exits`], [`forms`], [`reader`], [`steps`], [`pages`], [`refusals`],
-//!   [`fixed`]: the parts. Each stops at its first difference.
-//! - [`records`] and [`cases`]: what the parts hand over.
+//! - [`syscalls`], [`exits`], [`forms`], [`reader`], [`steps`], [`refusals`],
+//!   [`pages`], [`fixed`]: the parts. Each stops at its first difference.
+//! - [`records`], [`cases`], [`sets`] and [`shapes`]: what the parts hand over.
 //! - [`tally`]: what was met; a class that was not is a failure too.
 
 pub mod cases;
@@ -16,8 +16,11 @@ pub mod reader;
 pub mod records;
 pub mod refusals;
 pub mod report;
+pub mod sets;
+pub mod shapes;
 pub mod sides;
 pub mod steps;
+pub mod syscalls;
 pub mod tally;
 
 use crate::second::rules::Rules;
@@ -37,7 +40,10 @@ pub struct Comparison {
 /// A part: its name and what it does.
 type Part = (&'static str, fn(&mut Comparison) -> Same);
 
-const PARTS: [Part; 7] = [
+/// The part that meets most kinds soonest comes first: a mistake is found there
+/// in a moment.
+const PARTS: [Part; 8] = [
+    ("syscalls", syscalls::compare),
     ("exits", exits::compare),
     ("forms", forms::compare),
     ("reader", reader::compare),

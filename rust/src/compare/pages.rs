@@ -4,6 +4,7 @@
 use super::cases::{self, Scene};
 use super::records;
 use super::report;
+use super::sets;
 use super::sides::{Given, Handed, Rams};
 use super::steps::noise;
 use super::tally::LEAST_PAGES;
@@ -11,6 +12,7 @@ use super::{Comparison, Same};
 use crate::assemble::{self as asm, page_bytes, Bundle};
 use crate::random::{self, Random};
 use crate::second::memory::RAM_SIZE;
+use crate::second::page::Code;
 use crate::second::record::{stored_bytes, Record};
 
 const PAGES: u64 = LEAST_PAGES + 1000;
@@ -31,8 +33,9 @@ pub fn compare(comparison: &mut Comparison) -> Same {
             1 => damaged(&mut random),
             _ => random::page(comparison.seed, number),
         };
+        let code = Code::new(&page, sets::any(&mut random));
         let external = &external[..256 * random.below(5)];
-        one_page(comparison, &mut random, &page, external, &mut rams)
+        one_page(comparison, &mut random, code, external, &mut rams)
             .map_err(|found| format!("page {number}: {found}"))?;
         comparison.tally.class("amounts", "pages");
     }
@@ -78,27 +81,27 @@ fn damaged(random: &mut Random) -> Vec<u8> {
 fn one_page(
     comparison: &mut Comparison,
     random: &mut Random,
-    page: &[u8],
+    code: Code,
     external: &[u8],
     rams: &mut Rams,
 ) -> Same {
-    comparison.count(page)?;
-    for bundle in 0..=page.len() as u32 / 4 {
-        comparison.read(page, bundle)?;
+    comparison.count(code)?;
+    for bundle in 0..=code.page.len() as u32 / 4 {
+        comparison.read(code, bundle)?;
     }
     let fresh = stored_bytes(&Record::fresh());
     for budget in BUDGETS {
         let handed = Handed {
-            page,
+            code,
             external,
             record: &fresh,
             budget,
         };
         comparison.run(&handed, rams)?;
     }
-    let record = stored_bytes(&any_record(random, page, external.len()));
+    let record = stored_bytes(&any_record(random, code.page, external.len()));
     let handed = Handed {
-        page,
+        code,
         external,
         record: &record,
         budget: random.below(100) as u32,
@@ -155,7 +158,7 @@ fn series(
 }
 
 /// A step or a run with a part of the budget; now and then comes a call before
-/// it that is refused and changes nothing.
+/// it, with another page and set, that is refused and changes nothing.
 fn one_call(
     comparison: &mut Comparison,
     random: &mut Random,
@@ -163,10 +166,11 @@ fn one_call(
     rams: &mut Rams,
 ) -> Result<Given, String> {
     if random.chance(10) {
-        let foreign = Handed {
-            page: &own.page[..own.page.len().min(3)],
-            ..*own
-        };
+        let code = Code::new(
+            &own.code.page[..own.code.page.len().min(3)],
+            sets::any(random),
+        );
+        let foreign = Handed { code, ..*own };
         comparison.run(&foreign, rams)?;
     }
     match random.pick(&[0, 1, 1, 1, 2, 3, 7, 50, 200]).min(own.budget) {

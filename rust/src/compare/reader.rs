@@ -1,17 +1,20 @@
 //! The bundle reader: every halfword in both halves, a dense sample of 32-bit
-//! pairs, literal words of every row, and its refusals.
+//! pairs, literal words of every row, and its refusals, all under any sets.
 
+use super::sets;
 use super::{Comparison, Same};
 use crate::assemble::{self as asm, page_bytes, Bundle};
 use crate::names::{self, BAD_WORDS, WORDS};
 use crate::random::{self, Random};
+use crate::second::page::{Code, NeverReturn};
 
 /// Pages to read in, by how many bundles they have, and the bundle's number.
 const POSITIONS: [(usize, usize); 6] = [(64, 32), (64, 0), (64, 63), (64, 1), (64, 62), (8, 5)];
 
 /// What stands after a halfword.
 const AFTER: [u16; 4] = [asm::NOP, asm::RETURN, asm::HALT, 0xDE00];
-/// What stands before a halfword: the last two are terminators.
+/// What stands before a halfword: the last two are terminators, and the second
+/// is one by the set.
 const BEFORE: [u16; 4] = [asm::NOP, 0xDF80, asm::HALT, asm::RETURN];
 
 /// Second halfwords at the edges of the 32-bit rows.
@@ -28,45 +31,67 @@ const RANDOM_SECONDS: usize = 32;
 pub fn compare(comparison: &mut Comparison) -> Same {
     let mut random = Random::of_page(comparison.seed, 2 << 40);
     for (total, bundle) in POSITIONS {
-        let mut page = words_page(&mut random, total);
+        let mut sheet = Sheet::of_words(&mut random, total);
         for half in 0..=u16::MAX {
-            halfword(comparison, &mut page, bundle, half)?;
+            sheet.never_return = sets::any(&mut random);
+            halfword(comparison, &mut sheet, bundle, half)?;
         }
     }
     pairs(comparison, &mut random)?;
     words(comparison, &mut random)?;
-    refusals(comparison)
+    refusals(comparison, &mut random)
 }
 
-/// A page of literal words, good and bad.
-fn words_page(random: &mut Random, total: usize) -> Vec<u8> {
-    let bundles: Vec<Bundle> = (0..total)
-        .map(|_| match random.chance(60) {
-            true => asm::word(random::edge_word(random)),
-            false => asm::word(random::service_word(random)),
-        })
-        .collect();
-    page_bytes(&bundles)
+/// A page to put bundles in, and the set that it is read with.
+struct Sheet {
+    page: Vec<u8>,
+    never_return: NeverReturn,
 }
 
-/// Puts a bundle at its place in a page.
-fn put(page: &mut [u8], bundle: usize, halves: Bundle) {
-    page[4 * bundle..4 * bundle + 4].copy_from_slice(&page_bytes(&[halves]));
+impl Sheet {
+    /// A page of literal words, good and bad.
+    fn of_words(random: &mut Random, total: usize) -> Sheet {
+        let bundles: Vec<Bundle> = (0..total)
+            .map(|_| match random.chance(60) {
+                true => asm::word(random::edge_word(random)),
+                false => asm::word(random::service_word(random)),
+            })
+            .collect();
+        Sheet {
+            page: page_bytes(&bundles),
+            never_return: sets::any(random),
+        }
+    }
+
+    /// Puts a bundle at its place.
+    fn put(&mut self, bundle: usize, halves: Bundle) {
+        self.page[4 * bundle..4 * bundle + 4].copy_from_slice(&page_bytes(&[halves]));
+    }
+
+    /// The page's first bundles, to be read.
+    fn first(&self, bundles: usize) -> Code<'_> {
+        Code::new(&self.page[..4 * bundles], self.never_return)
+    }
+
+    /// The whole page, to be read.
+    fn code(&self) -> Code<'_> {
+        self.first(self.page.len() / 4)
+    }
 }
 
 /// Puts a bundle and reads it.
-fn read(comparison: &mut Comparison, page: &mut [u8], bundle: usize, halves: Bundle) -> Same {
-    put(page, bundle, halves);
-    comparison.read(page, bundle as u32)
+fn read(comparison: &mut Comparison, sheet: &mut Sheet, bundle: usize, halves: Bundle) -> Same {
+    sheet.put(bundle, halves);
+    comparison.read(sheet.code(), bundle as u32)
 }
 
 /// A halfword in both halves of a bundle.
-fn halfword(comparison: &mut Comparison, page: &mut [u8], bundle: usize, half: u16) -> Same {
+fn halfword(comparison: &mut Comparison, sheet: &mut Sheet, bundle: usize, half: u16) -> Same {
     for other in AFTER {
-        read(comparison, page, bundle, [half, other])?;
+        read(comparison, sheet, bundle, [half, other])?;
     }
     for other in BEFORE {
-        read(comparison, page, bundle, [other, half])?;
+        read(comparison, sheet, bundle, [other, half])?;
     }
     Ok(())
 }
@@ -74,20 +99,20 @@ fn halfword(comparison: &mut Comparison, page: &mut [u8], bundle: usize, half: u
 /// Every opener of a 32-bit instruction with many second halfwords, in one
 /// bundle and across two; those of a row with all of them.
 fn pairs(comparison: &mut Comparison, random: &mut Random) -> Same {
-    let mut page = words_page(random, 64);
+    let mut sheet = Sheet::of_words(random, 64);
     for opener in 0xE800..=u16::MAX {
         if names::opens_a_row(opener) {
             for second in 0..=u16::MAX {
-                read(comparison, &mut page, 31, [opener, second])?;
+                read(comparison, &mut sheet, 31, [opener, second])?;
             }
         }
         let some: Vec<u16> = (0..RANDOM_SECONDS).map(|_| random.halfword()).collect();
         for second in SECONDS.into_iter().chain(some) {
             let bundle = random.pick(&[0, 31, 62]);
-            read(comparison, &mut page, bundle, [opener, second])?;
-            put(&mut page, bundle + 1, [second, asm::NOP]);
-            read(comparison, &mut page, bundle, [asm::NOP, opener])?;
-            comparison.read(&page, bundle as u32 + 1)?;
+            read(comparison, &mut sheet, bundle, [opener, second])?;
+            sheet.put(bundle + 1, [second, asm::NOP]);
+            read(comparison, &mut sheet, bundle, [asm::NOP, opener])?;
+            comparison.read(sheet.code(), bundle as u32 + 1)?;
         }
     }
     Ok(())
@@ -95,7 +120,7 @@ fn pairs(comparison: &mut Comparison, random: &mut Random) -> Same {
 
 /// Literal words of every row, named from either half.
 fn words(comparison: &mut Comparison, random: &mut Random) -> Same {
-    let mut page = words_page(random, 64);
+    let mut sheet = Sheet::of_words(random, 64);
     for row in WORDS.iter().chain(&BAD_WORDS) {
         for number in 0..200 {
             let free = match number {
@@ -105,9 +130,10 @@ fn words(comparison: &mut Comparison, random: &mut Random) -> Same {
             };
             let word = row.value | free & !row.mask;
             let at = random.between(1, 63);
-            put(&mut page, at, asm::word(word));
+            sheet.put(at, asm::word(word));
+            sheet.never_return = sets::any(random);
             comparison.tally.class("words read", names::word(word));
-            word_at(comparison, &mut page, at)?;
+            word_at(comparison, &mut sheet, at)?;
         }
     }
     Ok(())
@@ -115,7 +141,7 @@ fn words(comparison: &mut Comparison, random: &mut Random) -> Same {
 
 /// Reads bundles that name the word at a bundle, in a whole page and in one
 /// that ends before the word or just after it.
-fn word_at(comparison: &mut Comparison, page: &mut [u8], at: usize) -> Same {
+fn word_at(comparison: &mut Comparison, sheet: &mut Sheet, at: usize) -> Same {
     let service = asm::service(at as u16);
     let bundle = at - 1;
     for halves in [
@@ -125,15 +151,15 @@ fn word_at(comparison: &mut Comparison, page: &mut [u8], at: usize) -> Same {
         [service, asm::HALT],
         [asm::RETURN, service],
     ] {
-        read(comparison, page, bundle, halves)?;
-        comparison.read(&page[..4 * at], bundle as u32)?;
-        comparison.read(&page[..4 * at + 4], bundle as u32)?;
+        read(comparison, sheet, bundle, halves)?;
+        comparison.read(sheet.first(at), bundle as u32)?;
+        comparison.read(sheet.first(at + 1), bundle as u32)?;
     }
     Ok(())
 }
 
 /// Bundles past the page, wrong lengths, and both at once.
-fn refusals(comparison: &mut Comparison) -> Same {
+fn refusals(comparison: &mut Comparison, random: &mut Random) -> Same {
     let lengths = (0..=300).chain([511, 512, 1023, 1024, 65_536]);
     for length in lengths {
         let page: Vec<u8> = [0xFE, 0xE7, 0x00, 0xBF]
@@ -141,13 +167,14 @@ fn refusals(comparison: &mut Comparison) -> Same {
             .cycle()
             .take(length)
             .collect();
+        let code = Code::new(&page, sets::any(random));
         let bundles = (length / 4) as u32;
         let far = [63, 64, 65, 1000, 1 << 30, (1 << 30) + 1, 1 << 31, u32::MAX];
         let near = [0, bundles.saturating_sub(1), bundles, bundles + 1];
         for bundle in near.into_iter().chain(far) {
-            comparison.read(&page, bundle)?;
+            comparison.read(code, bundle)?;
         }
-        comparison.count(&page)?;
+        comparison.count(code)?;
     }
     Ok(())
 }

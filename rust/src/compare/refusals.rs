@@ -2,12 +2,14 @@
 //! number is also known from 01's order, without either side.
 
 use super::records;
+use super::sets;
 use super::sides::{Handed, Rams, NO_RECORD};
 use super::steps::noise;
 use super::{Comparison, Same};
 use crate::assemble::{self as asm, page_bytes};
 use crate::random::Random;
 use crate::second::memory::RAM_SIZE;
+use crate::second::page::Code;
 use crate::second::record::{stored_bytes, MOST_EXTERNAL};
 
 /// How often each choice of wrong things is made.
@@ -116,7 +118,7 @@ fn together(
     let record = record(random, wrong, length);
     let mut rams = Rams::new(vec![0x5A; ram_length(random, wrong & RAM != 0)]);
     let handed = Handed {
-        page: &page,
+        code: Code::new(&page, sets::any(random)),
         external: &external[..length],
         record: &record,
         budget: random.pick(&[0, 1, 5, u32::MAX]),
@@ -165,8 +167,9 @@ fn most_external(comparison: &mut Comparison, random: &mut Random, external: &[u
             1 => 0x8000_0000 + random.below(260) as u32,
             _ => records::address(random, MOST),
         };
+        let page = page_bytes(&bundles);
         let handed = Handed {
-            page: &page_bytes(&bundles),
+            code: Code::plain(&page),
             external,
             record: &stored_bytes(&record),
             budget: 4,

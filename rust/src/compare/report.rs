@@ -3,6 +3,7 @@
 use std::fmt::Debug;
 
 use super::sides::{record_in, Given, Handed};
+use crate::second::page::Code;
 use crate::second::record::Base;
 use crate::show;
 
@@ -32,15 +33,24 @@ pub fn runs(call: &str, handed: &Handed, sides: [(&Given, &[u8]); 2]) -> String 
 /// What a step or a run was handed.
 fn handed_over(handed: &Handed, ram: usize) -> String {
     format!(
-        "page ({} bytes): {}\nrecord ({} bytes): {}\n{}budget {}, RAM of {ram} bytes\nexternal ({} bytes): {}\n",
-        handed.page.len(),
-        show::page(handed.page),
+        "{}record ({} bytes): {}\n{}budget {}, RAM of {ram} bytes\nexternal ({} bytes): {}\n",
+        code(handed.code),
         handed.record.len(),
         show::bytes(handed.record),
         fields(handed.record),
         handed.budget,
         handed.external.len(),
         external(handed),
+    )
+}
+
+/// A page, and the syscalls that never return.
+fn code(code: Code) -> String {
+    format!(
+        "page ({} bytes): {}\nnever return: {:016X}\n",
+        code.page.len(),
+        show::page(code.page),
+        code.never_return.0,
     )
 }
 
@@ -72,11 +82,10 @@ fn given(given: &Given) -> String {
 }
 
 /// A difference of a call on a page.
-pub fn page_call<T: Debug>(call: &str, page: &[u8], library: T, second: T) -> String {
+pub fn page_call<T: Debug>(call: &str, handed: Code, library: T, second: T) -> String {
     format!(
-        "{call}\npage ({} bytes): {}\nlibrary: {library:?}\nsecond program: {second:?}\n",
-        page.len(),
-        show::page(page),
+        "{call}\n{}library: {library:?}\nsecond program: {second:?}\n",
+        code(handed),
     )
 }
 

@@ -9,6 +9,7 @@ use crate::second::count::{count_of, read_bundle_of, Reading};
 use crate::second::exits::Exit;
 use crate::second::machine::{run_by, Answer, Stop};
 use crate::second::memory::{validate_with, RAM_SIZE};
+use crate::second::page::Code;
 use crate::second::record::{parse, read_back, store, stored_bytes, Base, Record, STORED};
 use crate::second::rules::Rules;
 
@@ -21,7 +22,7 @@ const FORM_RANGE: u32 = 7;
 /// What a step or a run is handed beside RAM. A step has budget 1.
 #[derive(Clone, Copy)]
 pub struct Handed<'a> {
-    pub page: &'a [u8],
+    pub code: Code<'a>,
     pub external: &'a [u8],
     pub record: &'a [u8],
     pub budget: u32,
@@ -100,7 +101,7 @@ fn numbers(answer: &Answer) -> Numbers {
 /// What answers a step or a run that is handed no record: 1, 2 or 3 by what is
 /// lent, else 255.
 fn areas_code(handed: &Handed, ram: usize) -> u32 {
-    let (page, external) = (handed.page.len(), handed.external.len());
+    let (page, external) = (handed.code.page.len(), handed.external.len());
     match () {
         _ if page > 256 || page % 4 != 0 => 1,
         _ if ram != RAM_SIZE => 2,
@@ -124,29 +125,33 @@ fn second_run(rules: Rules, handed: &Handed, ram: &mut [u8]) -> Given {
             record: handed.record.to_vec(),
         };
     };
-    let (page, external) = (handed.page, handed.external);
-    let answer = run_by(rules, page, ram, external, &record, handed.budget);
+    let (code, external) = (handed.code, handed.external);
+    let answer = run_by(rules, code, ram, external, &record, handed.budget);
     Given {
         numbers: numbers(&answer),
         record: stored_bytes(&answer.record),
     }
 }
 
+/// A page and its set as the library takes them.
+fn library_code(code: Code<'_>) -> (&[u8], u64) {
+    (code.page, code.never_return.0)
+}
+
 /// A run of the library.
 fn library_run(handed: &Handed, ram: &mut [u8]) -> Given {
     let mut record = handed.record.to_vec();
-    let (page, external) = (handed.page, handed.external);
-    Given {
-        numbers: raw::run(page, ram, external, &mut record, handed.budget),
-        record,
-    }
+    let (page, set) = library_code(handed.code);
+    let numbers = raw::run(page, set, ram, handed.external, &mut record, handed.budget);
+    Given { numbers, record }
 }
 
 /// A step of the library.
 fn library_step(handed: &Handed, ram: &mut [u8]) -> Given {
     let mut record = handed.record.to_vec();
+    let (page, set) = library_code(handed.code);
     Given {
-        numbers: raw::step(handed.page, ram, handed.external, &mut record),
+        numbers: raw::step(page, set, ram, handed.external, &mut record),
         record,
     }
 }
@@ -210,7 +215,7 @@ impl Comparison {
             let sides = [(&library, &rams.library[..]), (&second, &rams.second)];
             return Err(report::runs("run", handed, sides));
         }
-        self.tally.stop("run", &second.numbers);
+        self.tally.stop("run", handed, &second);
         Ok(second)
     }
 
@@ -229,32 +234,36 @@ impl Comparison {
             let sides = [(&ran, &rams.spare[..]), expected];
             return Err(report::runs("run with budget 1", handed, sides));
         }
-        self.tally.stop("step", &second.numbers);
+        self.tally.stop("step", handed, &second);
         self.tally.instruction(handed, &second);
         Ok(second)
     }
 
     /// The count.
-    pub fn count(&mut self, page: &[u8]) -> Result<u32, String> {
-        let library = raw::count(page);
-        let (count, refusal) = count_of(self.rules, page);
+    pub fn count(&mut self, counted: Code) -> Result<u32, String> {
+        let (page, set) = library_code(counted);
+        let library = raw::count(page, set);
+        let (count, refusal) = count_of(self.rules, counted);
         let second = (code(refusal), count as u32);
         if library != second {
-            return Err(report::page_call("count", page, library, second));
+            return Err(report::page_call("count", counted, library, second));
         }
         self.tally.call("count", second.0);
+        self.tally.set("sets counted", counted);
         Ok(second.1)
     }
 
     /// The reader.
-    pub fn read(&mut self, page: &[u8], bundle: u32) -> Same {
-        let library = raw::read_bundle(page, bundle);
-        let second = reading_numbers(read_bundle_of(self.rules, page, bundle as usize));
+    pub fn read(&mut self, code: Code, bundle: u32) -> Same {
+        let (page, set) = library_code(code);
+        let library = raw::read_bundle(page, set, bundle);
+        let second = reading_numbers(read_bundle_of(self.rules, code, bundle as usize));
         if library != second {
             let call = format!("read_bundle {bundle}");
-            return Err(report::page_call(&call, page, library, second));
+            return Err(report::page_call(&call, code, library, second));
         }
         self.tally.reading(second);
+        self.tally.syscalls_read(code, bundle as usize, second.1);
         Ok(())
     }
 

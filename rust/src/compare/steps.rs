@@ -3,11 +3,13 @@
 
 use super::cases;
 use super::records::{self, EDGES};
+use super::sets;
 use super::sides::{Handed, Rams};
 use super::{Comparison, Same};
 use crate::assemble::{self as asm, page_bytes, Bundle};
 use crate::random::{self, Random};
 use crate::second::memory::RAM_SIZE;
+use crate::second::page::Code;
 use crate::second::record::{stored_bytes, Record};
 
 /// Random cases; most of them are accepted.
@@ -52,7 +54,7 @@ fn random_step(
         records::spoil(&mut random, &mut record);
     }
     let handed = Handed {
-        page: &case.page,
+        code: Code::new(&case.page, sets::any(&mut random)),
         external,
         record: &record,
         budget: 1,
@@ -83,8 +85,9 @@ fn every_halfword(
         };
         let mut record = records::fit(random, external.len());
         record.place = 48 + at as u16;
+        let page = page_bytes(&bundles);
         let handed = Handed {
-            page: &page_bytes(&bundles),
+            code: Code::new(&page, sets::any(random)),
             external,
             record: &stored_bytes(&record),
             budget: 1,
@@ -103,8 +106,9 @@ fn step_of(comparison: &mut Comparison, bundle: Bundle, record: &Record, rams: &
         place,
         ..record.clone()
     });
+    let page = page_bytes(&bundles);
     let handed = Handed {
-        page: &page_bytes(&bundles),
+        code: Code::plain(&page),
         external: &[],
         record: &record,
         budget: 1,

@@ -3,11 +3,13 @@
 use std::collections::{BTreeMap, BTreeSet};
 use std::fmt;
 
-use marshbodkin::raw::Answer as Numbers;
-
+use super::sets;
 use super::sides::{record_in, Given, Handed};
+use crate::assemble as asm;
 use crate::names::{self, BAD_WORDS, NARROW, SERVICES, WIDE, WORDS};
-use crate::second::page::Page;
+use crate::second::count::is_fit_place;
+use crate::second::page::{Code, NeverReturn, Page};
+use crate::second::rules::Rules;
 
 /// Random steps that had to be taken.
 pub const LEAST_STEPS: u64 = 200_000;
@@ -52,6 +54,27 @@ const BRANCHES: [&str; 16] = [
     "ble", "cbz", "cbnz",
 ];
 
+/// Calls by the kinds of their sets.
+const SETS: [&str; 3] = ["sets counted", "sets read", "sets run"];
+/// Calls that a last syscall, one that never returns, stopped.
+const KEPT: &str = "stopped by a last syscall, the place kept";
+/// Where last syscalls stand, and what they and the others do.
+pub const LAST: &str = "last syscalls";
+const LAST_SYSCALLS: [&str; 12] = [
+    "in a first half",
+    "in a second half",
+    "at the end of a page",
+    "behind b",
+    "behind a return",
+    "behind another",
+    "behind itself",
+    "made an odd place unfit",
+    "one goes on beside others",
+    "one goes on between two",
+    "both ways from one place",
+    "refused with another set",
+];
+
 /// How often each class was met.
 #[derive(Default)]
 pub struct Tally {
@@ -70,18 +93,21 @@ impl Tally {
         *self.classes.entry((group, name)).or_default() += 1;
     }
 
-    /// Counts a step or a run by its stop.
-    pub fn stop(&mut self, call: &'static str, numbers: &Numbers) {
+    /// Counts a step or a run by its stop and by its set.
+    pub fn stop(&mut self, call: &'static str, handed: &Handed, given: &Given) {
+        let numbers = &given.numbers;
         self.call(call, numbers.code);
         self.class("stops", STOPS[numbers.kind as usize]);
         if numbers.kind == 3 {
             self.class("faults", FAULTS[numbers.value as usize - 1]);
         }
+        self.set("sets run", handed.code);
+        self.syscall_met(call, handed.code, given);
     }
 
     /// Counts an executed step by the instruction at its place.
     pub fn instruction(&mut self, handed: &Handed, given: &Given) {
-        let (Some(page), Some(before)) = (Page::new(handed.page), record_in(handed.record)) else {
+        let (Some(page), Some(before)) = (Page::new(handed.code), record_in(handed.record)) else {
             return;
         };
         let place = usize::from(before.place);
@@ -147,6 +173,87 @@ impl Tally {
     }
 }
 
+/// The number of a direct syscall.
+fn direct(half: u16) -> Option<u32> {
+    matches!(half, 0xDF80..=0xDFBF).then_some(u32::from(half) & 63)
+}
+
+/// Syscalls that never return: where they stand and what they do.
+impl Tally {
+    /// Counts the kind of a set.
+    pub fn set(&mut self, group: &'static str, code: Code) {
+        self.class(group, sets::kind(code.never_return));
+    }
+
+    /// Counts a bundle with a direct syscall, if it was not read as bad.
+    pub fn syscalls_read(&mut self, code: Code, bundle: usize, kind: u32) {
+        let Some(page) = Page::new(code).filter(|_| kind != 0) else {
+            return;
+        };
+        let (first, second) = page.bundle(bundle);
+        if direct(first).or(direct(second)).is_none() {
+            return;
+        }
+        self.set("sets read", code);
+        let last = |half| direct(half).is_some_and(|number| code.never_return.holds(number));
+        let stands = match (first, last(first), last(second)) {
+            (_, true, true) if first != second => "behind another",
+            (_, true, true) => "behind itself",
+            (_, true, false) => "in a first half",
+            (0xE000..=0xE7FF, _, true) => "behind b",
+            (asm::RETURN, _, true) => "behind a return",
+            (0..=0xCFFF, _, true) => "in a second half",
+            _ => return,
+        };
+        self.class(LAST, stands);
+        let ends_the_flow = last(first) || stands == "in a second half";
+        if ends_the_flow && kind == 1 && bundle + 1 == page.bundles() {
+            self.class(LAST, "at the end of a page");
+        }
+    }
+
+    /// Counts a stop at a direct syscall, and a place that one makes unfit.
+    fn syscall_met(&mut self, call: &'static str, code: Code, given: &Given) {
+        let (Some(page), Some(after)) = (Page::new(code), record_in(&given.record)) else {
+            return;
+        };
+        let place = usize::from(after.place);
+        let half = asm::service(given.numbers.value as u16);
+        match (given.numbers.kind, direct(half)) {
+            (1, Some(number)) if !code.never_return.holds(number) => {
+                self.went_on(code.never_return, number);
+            }
+            (1, Some(_)) if page.halfword(place) == half => self.class(KEPT, call),
+            _ if given.numbers.code == 5 && unfit_by_syscall(page, place) => {
+                self.class(LAST, "made an odd place unfit");
+            }
+            _ => {}
+        }
+    }
+
+    /// Counts a syscall that goes on although others do not.
+    fn went_on(&mut self, set: NeverReturn, number: u32) {
+        if set != NeverReturn::NONE {
+            self.class(LAST, "one goes on beside others");
+        }
+        if (1..63).contains(&number) && set.holds(number - 1) && set.holds(number + 1) {
+            self.class(LAST, "one goes on between two");
+        }
+    }
+}
+
+/// True if an unfit place is odd and would be fit, did the syscall before it go
+/// on.
+fn unfit_by_syscall(page: Page, place: usize) -> bool {
+    if place.is_multiple_of(2) || place / 2 >= page.bundles() {
+        return false;
+    }
+    direct(page.halfword(place - 1)).is_some_and(|number| {
+        let page = page.with(sets::without(page.never_return(), sets::only(number)));
+        is_fit_place(Rules::RIGHT, page, place)
+    })
+}
+
 /// The classes that must be met.
 fn required() -> Vec<(&'static str, &'static str)> {
     let stops = STOPS.iter().filter(|&&name| name != MARK);
@@ -166,6 +273,12 @@ fn required() -> Vec<(&'static str, &'static str)> {
         .chain(words.clone().map(|name| ("words read", name)))
         .chain(words.map(|name| ("exit words", name)))
         .chain(EXITS.map(|name| ("exits", name)))
+        .chain(LAST_SYSCALLS.map(|name| (LAST, name)))
+        .chain(["step", "run"].map(|call| (KEPT, call)))
+        .chain(
+            SETS.iter()
+                .flat_map(|&group| sets::KINDS.map(|kind| (group, kind))),
+        )
         .collect()
 }
 

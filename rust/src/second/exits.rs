@@ -1,6 +1,7 @@
 //! 002's exits: what a service that is left to the host asks of it.
 
 use super::decode::Register;
+use super::page::NeverReturn;
 use super::services::{literal_service, service, Action, Service};
 
 /// An exit with the fields of its encoding.
@@ -35,10 +36,11 @@ pub enum Exit {
 
 impl Exit {
     /// True if the flow does not go on to the next instruction.
-    pub fn is_terminator(self) -> bool {
+    pub fn is_terminator(self, never_return: NeverReturn) -> bool {
         match self {
             Exit::Return | Exit::LongBranch { .. } => true,
-            Exit::DirectSyscall { .. } | Exit::Breakpoint => false,
+            Exit::DirectSyscall { number } => never_return.holds(number),
+            Exit::Breakpoint => false,
             Exit::Call { tail, .. }
             | Exit::Syscall { tail, .. }
             | Exit::CallRegister { tail, .. } => tail,

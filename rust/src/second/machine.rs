@@ -4,7 +4,7 @@ use super::arith::{add_with_carry, multiply, sdiv, shift_c, sign_extend, udiv, S
 use super::count::{branch_target, is_fit_place};
 use super::decode::{narrow, opens_wide, wide, DataOp, Instruction, Operand, Register};
 use super::memory::{self, Fault};
-use super::page::Page;
+use super::page::{Code, Page};
 use super::record::{Base, Record};
 use super::rules::Rules;
 use super::services::{literal_service, Action, Service};
@@ -33,25 +33,25 @@ pub struct Answer {
 }
 
 /// One step: a run with budget 1.
-pub fn step(page: &[u8], ram: &mut [u8], external: &[u8], record: &Record) -> Answer {
-    run(page, ram, external, record, 1)
+pub fn step(code: Code, ram: &mut [u8], external: &[u8], record: &Record) -> Answer {
+    run(code, ram, external, record, 1)
 }
 
 /// A run with a budget.
-pub fn run(page: &[u8], ram: &mut [u8], external: &[u8], record: &Record, budget: u32) -> Answer {
-    run_by(Rules::RIGHT, page, ram, external, record, budget)
+pub fn run(code: Code, ram: &mut [u8], external: &[u8], record: &Record, budget: u32) -> Answer {
+    run_by(Rules::RIGHT, code, ram, external, record, budget)
 }
 
 /// A run by other rules.
 pub fn run_by(
     rules: Rules,
-    page: &[u8],
+    code: Code,
     ram: &mut [u8],
     external: &[u8],
     record: &Record,
     budget: u32,
 ) -> Answer {
-    match accept(rules, page, ram, external, record) {
+    match accept(rules, code, ram, external, record) {
         Err(number) => Answer {
             record: record.clone(),
             steps: 0,
@@ -71,12 +71,12 @@ pub fn run_by(
 /// The refusals of a step or a run, in order.
 fn accept<'a>(
     rules: Rules,
-    page: &'a [u8],
+    code: Code<'a>,
     ram: &[u8],
     external: &[u8],
     record: &Record,
 ) -> Result<Page<'a>, u8> {
-    let page = Page::new(page).ok_or(1)?;
+    let page = Page::new(code.by(rules.run)).ok_or(1)?;
     if ram.len() != memory::RAM_SIZE {
         return Err(2);
     }
@@ -98,9 +98,9 @@ enum Next {
     Follow,
     /// A byte address in the page.
     Jump(i64),
-    /// A stop for the host; a terminator keeps its place.
+    /// A stop for the host, at which the place stays or moves on.
     Exit {
-        terminator: bool,
+        stays: bool,
         low: u8,
         literal: Option<u32>,
     },
@@ -195,11 +195,11 @@ impl Machine<'_> {
                 None
             }
             Next::Exit {
-                terminator,
+                stays,
                 low,
                 literal,
             } => {
-                if !terminator {
+                if !stays {
                     self.record.place += size;
                 }
                 Some(Stop::Service { low, literal })
@@ -420,7 +420,7 @@ impl Machine<'_> {
         self.record.base = self.act(action)?;
         Ok(match action {
             Action::Exit(exit) => Next::Exit {
-                terminator: exit.is_terminator(),
+                stays: (self.rules.stays)(exit, self.page.never_return()),
                 low,
                 literal,
             },

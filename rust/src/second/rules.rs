@@ -5,7 +5,7 @@ use super::arith::{condition_passed, Flags};
 use super::count::{count, read_bundle, Reading};
 use super::exits::{exit_of, Exit};
 use super::memory::validate;
-use super::page::Page;
+use super::page::{NeverReturn, Page};
 use super::record::{Base, Record};
 
 /// One rule of each kind.
@@ -17,6 +17,12 @@ pub struct Rules {
     pub reading: fn(Page, usize) -> Reading,
     /// The count of a page.
     pub count: fn(Page) -> usize,
+    /// The set that the count and the reader make of the one they are given.
+    pub counted: fn(NeverReturn) -> NeverReturn,
+    /// The set that a step or a run makes of the one it is given.
+    pub run: fn(NeverReturn) -> NeverReturn,
+    /// Whether the place stays at an exit.
+    pub stays: fn(Exit, NeverReturn) -> bool,
     /// validate(v), with so many bytes of external data.
     pub validate: fn(u32, usize) -> Base,
     /// The range tests of the stored form.
@@ -31,6 +37,9 @@ impl Rules {
         condition: condition_passed,
         reading: read_bundle,
         count,
+        counted: |given| given,
+        run: |given| given,
+        stays: Exit::is_terminator,
         validate,
         in_range: Record::is_in_range,
         exit: exit_of,

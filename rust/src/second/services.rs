@@ -3,6 +3,7 @@
 use super::decode::Register;
 use super::exits::Exit;
 use super::memory::EXTERNAL_START;
+use super::page::NeverReturn;
 
 /// What a service does, apart from what it does to the base.
 #[derive(Clone, Copy, Debug, PartialEq, Eq)]
@@ -25,8 +26,8 @@ pub enum Action {
 
 impl Action {
     /// True if the flow does not go on to the next instruction.
-    pub fn is_terminator(self) -> bool {
-        matches!(self, Action::Exit(exit) if exit.is_terminator())
+    pub fn is_terminator(self, never_return: NeverReturn) -> bool {
+        matches!(self, Action::Exit(exit) if exit.is_terminator(never_return))
     }
 }
 

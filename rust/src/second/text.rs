@@ -1,10 +1,11 @@
-//! What the lister and the runner print for a page, to the byte.
+//! What the lister and the runner print for a page, to the byte. Both give the
+//! empty set of syscalls that never return.
 
 use super::arith::Flags;
 use super::count::Reading;
 use super::machine::{run_by, Answer, Stop};
 use super::memory::RAM_SIZE;
-use super::page::Page;
+use super::page::{Code, Page};
 use super::record::Record;
 use super::rules::Rules;
 
@@ -13,7 +14,7 @@ pub const BUDGET: u32 = 100_000;
 
 /// The whole output of the lister.
 pub fn lister(rules: Rules, bytes: &[u8]) -> String {
-    let Some(page) = Page::new(bytes) else {
+    let Some(page) = Page::new(Code::plain(bytes).by(rules.counted)) else {
         return refused(1);
     };
     let count = (rules.count)(page);
@@ -40,7 +41,8 @@ fn listed_bundle(rules: Rules, page: Page, bundle: usize, count: usize) -> Strin
 /// data.
 pub fn runner_answer(rules: Rules, bytes: &[u8]) -> Answer {
     let mut ram = vec![0; RAM_SIZE];
-    run_by(rules, bytes, &mut ram, &[], &Record::fresh(), BUDGET)
+    let code = Code::plain(bytes);
+    run_by(rules, code, &mut ram, &[], &Record::fresh(), BUDGET)
 }
 
 /// The whole output of the runner.
