@@ -1,14 +1,14 @@
 -- Where the literal word counts: for low bytes 01 to 7F, and nowhere else. What a platform changes of endings.
 use Prim.Native.Nat.{ℕ, _<_}
 use mathlib.Core.Bool.{Bool, true, false, cond, true≢false, and-false}
-use mathlib.Core.Logic.{_⊎_, inl, inr}
+use mathlib.Core.Logic.{_⊎_, inl, inr, ⊎-elim}
 use mathlib.Core.Path.{_≡_, refl, sym, _∙_}
 use lib.Dec.{leb}
 use borrow.Author.Tests.{le-leb, lt-leb, leb-true, leb-false}
 use Rattle.laws.proofs.Tests.{both}
 use Rattle.platform.specs.Platforms.{neverReturns}
 use Rattle.platform.specs.declared.Platform.{Platform}
-use Rattle.service.specs.Services.{takesLiteral, byLowByte, endingOf, endingOn}
+use Rattle.service.specs.Services.{takesLiteral, byLowByte, endingOf, lastSyscall, endingOn}
 use Rattle.service.specs.declared.Ending.the-variants.{Exit, LastExit}
 use Rattle.service.specs.declared.Service.{Service}
 use Rattle.service.specs.declared.Service.the-variants.{Return, Call, TailCall, Syscall, TailSyscall, LongBranch, Preload, SetBase, StoreAtSp, LoadAtSp, LowerSp, DirectSyscall, Validate, Breakpoint, CallRegister, TailCallRegister, Bad}
@@ -34,26 +34,31 @@ above n h = rw h (and-false (leb 0x01 n))
 
 -- ---- on a platform
 
+-- no service but a direct syscall is looked up in its set
+pub only-direct : (s : Service) → ((n : ℕ) × (s ≡ DirectSyscall n)) ⊎ ((platform : Platform) → lastSyscall platform s ≡ false)
+only-direct Return = inr (λ platform. refl)
+only-direct (Call a n) = inr (λ platform. refl)
+only-direct (TailCall a n) = inr (λ platform. refl)
+only-direct (Syscall n i) = inr (λ platform. refl)
+only-direct (TailSyscall n i) = inr (λ platform. refl)
+only-direct (LongBranch a) = inr (λ platform. refl)
+only-direct Preload = inr (λ platform. refl)
+only-direct (SetBase a) = inr (λ platform. refl)
+only-direct (StoreAtSp t a) = inr (λ platform. refl)
+only-direct (LoadAtSp t a) = inr (λ platform. refl)
+only-direct (LowerSp a) = inr (λ platform. refl)
+only-direct (DirectSyscall n) = inl (n, refl)
+only-direct (Validate n) = inr (λ platform. refl)
+only-direct Breakpoint = inr (λ platform. refl)
+only-direct (CallRegister n) = inr (λ platform. refl)
+only-direct (TailCallRegister n) = inr (λ platform. refl)
+only-direct Bad = inr (λ platform. refl)
+
 -- it makes terminators of exits, and changes nothing else
-pub on-platform : (platform : Platform) (s : Service) → (endingOn platform s ≡ endingOf s) ⊎ ((endingOf s ≡ Exit) × (endingOn platform s ≡ LastExit))
-on-platform platform Return = inl refl
-on-platform platform (Call a n) = inl refl
-on-platform platform (TailCall a n) = inl refl
-on-platform platform (Syscall n i) = inl refl
-on-platform platform (TailSyscall n i) = inl refl
-on-platform platform (LongBranch a) = inl refl
-on-platform platform Preload = inl refl
-on-platform platform (SetBase a) = inl refl
-on-platform platform (StoreAtSp t a) = inl refl
-on-platform platform (LoadAtSp t a) = inl refl
-on-platform platform (LowerSp a) = inl refl
-on-platform platform (DirectSyscall n) = go (neverReturns platform n)
+pub on-platform : (platform : Platform) (s : Service)
+    → (endingOn platform s ≡ endingOf s) ⊎ ((endingOf s ≡ Exit) × (endingOn platform s ≡ LastExit))
+on-platform platform s = ⊎-elim (λ d. rw (d .1) (go (neverReturns platform (d .0)))) (λ h. inl (rw (h platform))) (only-direct s)
   where
     go : (last : Bool) → (cond last LastExit Exit ≡ Exit) ⊎ ((Exit ≡ Exit) × (cond last LastExit Exit ≡ LastExit))
     go true = inr (refl, refl)
     go false = inl refl
-on-platform platform (Validate n) = inl refl
-on-platform platform Breakpoint = inl refl
-on-platform platform (CallRegister n) = inl refl
-on-platform platform (TailCallRegister n) = inl refl
-on-platform platform Bad = inl refl
