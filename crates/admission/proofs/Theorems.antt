@@ -6,10 +6,11 @@ use mathlib.Core.Path.{_≡_}
 use lib.ListN.{length}
 use lib.Dec.{eqb}
 use borrow.Author.Tests.{eq-eqb, eqb-true}
-use Rattle.refusal.specs.Refusals.{accepted}
+use Rattle.refusal.specs.Refusals.{accepted, decision}
 use Rattle.refusal.proofs.Theorems.{passes}
 use Rattle.page.specs.Page.{pageFits}
-use Rattle.platform.specs.Programs.{Setting}
+use Rattle.platform.specs.Programs.{programRules, Setting}
+use Rattle.platform.proofs.Theorems.{program-accepts, program-accepted}
 use Rattle.state.specs.Record.{fitRecord}
 use Rattle.state.specs.Validation.{externalFits}
 use Rattle.state.specs.declared.Record.{Record}
@@ -17,23 +18,26 @@ use Rattle.place.specs.Places.{fitPlace}
 use Rattle.admission.specs.RunRefusals.{runDecision}
 
 -- what is allowed and fit is not refused
-pub accepts : (setting : Setting) (r : Record) (ram : List ℕ) → pageFits (setting .program .page) ≡ true → length ram ≡ 32768
+pub accepts : (setting : Setting) (r : Record) (ram : List ℕ) → decision (programRules (setting .program)) ≡ accepted → length ram ≡ 32768
     → externalFits (length (setting .external)) ≡ true → fitRecord r (length (setting .external)) ≡ true
     → fitPlace (setting .program) (r .place) ≡ true → runDecision setting r ram ≡ accepted
 unfolding runDecision
-accepts setting r ram p n e f g = rw (p, eq-eqb _ _ n, e, f, g)
+accepts setting r ram p n e f g =
+    let both = program-accepted (setting .program) p in
+    rw (both .0, both .1, eq-eqb _ _ n, e, f, g)
 
 -- and only that is accepted
 pub accepted-all : (setting : Setting) (r : Record) (ram : List ℕ) → runDecision setting r ram ≡ accepted
-    → (pageFits (setting .program .page) ≡ true)
+    → (decision (programRules (setting .program)) ≡ accepted)
     × (length ram ≡ 32768)
     × (externalFits (length (setting .external)) ≡ true)
     × (fitRecord r (length (setting .external)) ≡ true)
     × (fitPlace (setting .program) (r .place) ≡ true)
 unfolding runDecision
 accepted-all setting r ram e =
-    let first = passes (pageFits (setting .program .page)) 1 [] _ e in
+    let known = passes _ 18 [] _ e in
+    let first = passes (pageFits (setting .program .page)) 1 [] _ (known .1) in
     let second = passes (eqb (length ram) 32768) 2 [] _ (first .1) in
     let third = passes (externalFits (length (setting .external))) 3 [] _ (second .1) in
     let fourth = passes (fitRecord r (length (setting .external))) 4 [] _ (third .1) in
-    (first .0, eqb-true (length ram) 32768 (second .0), third .0, fourth .0, passes (fitPlace (setting .program) (r .place)) 5 [] _ (fourth .1) .0)
+    (program-accepts (setting .program) (known .0) (first .0), eqb-true (length ram) 32768 (second .0), third .0, fourth .0, passes (fitPlace (setting .program) (r .place)) 5 [] _ (fourth .1) .0)

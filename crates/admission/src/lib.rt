@@ -8,12 +8,12 @@ use refusal::Refusal;
 use refusal::Verdict;
 use state::Record;
 
-// What is lent has its lengths.
-pub fn of_areas(page: &[u8], ram: &[u8], external: &[u8]) -> Verdict
-    ensures { λ v. ⌜ decisionOf v ≡ decision (areaRules (now (page .entry)) (now (external .entry)) (now (ram .entry))) ⌝ }
+// The profile is known, and what is lent has its lengths.
+pub fn of_areas(page: &[u8], platform: Platform, ram: &[u8], external: &[u8]) -> Verdict
+    ensures { λ v. ⌜ decisionOf v ≡ decision (areaRules (settingOf (programOf (now (page .entry)) platform) (now (external .entry))) (now (ram .entry))) ⌝ }
 {
-    if !page::fits(page) {
-        return Verdict::Refused(Refusal::PageLength);
+    if let Verdict::Refused(why) = platform::of_program(page, platform) {
+        return Verdict::Refused(why);
     }
     if ram.len() != 32768 {
         return Verdict::Refused(Refusal::RamLength);
@@ -46,7 +46,7 @@ pub fn verdict_of(
 ) -> Verdict
     ensures { λ v. ⌜ decisionOf v ≡ runDecision (settingOf (programOf (now (page .entry)) platform) (now (external .entry))) r (now (ram .entry)) ⌝ }
 {
-    let areas = of_areas(page, ram, external);
+    let areas = of_areas(page, platform, ram, external);
     match areas {
         Verdict::Refused(why) => Verdict::Refused(why),
         Verdict::Accepted => of_record(page, platform, external, r),

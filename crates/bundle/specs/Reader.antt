@@ -1,17 +1,21 @@
 -- The bundle reader: bad, none or the largest successor.
 use Prim.Native.Nat.{ℕ}
-use mathlib.Core.List.{List, [], _∷_}
+use mathlib.Core.List.{List, [], _∷_, _++_}
 use lib.Dec.{leb}
 use Rattle.refusal.specs.Refusals.{Decision, Rule, rule, decision, whenAccepted, decisionOf}
 use Rattle.prefix.specs.LargestSuccessor.{Reading, badBundle, largestSuccessor, readingOf}
-use Rattle.page.specs.Page.{pageRule, bundlesIn}
-use Rattle.platform.specs.Programs.{Program}
+use Rattle.page.specs.Page.{bundlesIn}
+use Rattle.platform.specs.Programs.{Program, programRules}
 use Rattle.bundle.specs.Successors.{successorsOf}
 use Rattle.bundle.specs.declared.Read.{Read}
 
--- refusals 1, then 8
-abbrev pub readRules : List ℕ → ℕ → List Rule
-readRules page k = pageRule page ∷ rule (leb (bundlesIn page) k) 8 [] ∷ []
+-- refusal 8
+abbrev pub bundleRule : List ℕ → ℕ → Rule
+bundleRule page k = rule (leb (bundlesIn page) k) 8 []
+
+-- 18, 1, then 8
+abbrev pub readRules : Program → ℕ → List Rule
+readRules program k = programRules program ++ (bundleRule (program .page) k ∷ [])
 
 -- what the reader gives
 pub record ReaderAnswer : Type 0 where
@@ -21,8 +25,8 @@ pub record ReaderAnswer : Type 0 where
 -- refused, a bad bundle
 abbrev pub readBundle : Program → ℕ → ReaderAnswer
 readBundle program k = record {
-  decision = decision (readRules (program .page) k);
-  reading = whenAccepted (decision (readRules (program .page) k)) (largestSuccessor (successorsOf program k)) badBundle;
+  decision = decision (readRules program k);
+  reading = whenAccepted (decision (readRules program k)) (largestSuccessor (successorsOf program k)) badBundle;
 }
 
 -- the code's answer, by the build paper's numbers and values

@@ -6,8 +6,8 @@ use lib.ListN.{length}
 use Rattle.prefix.specs.Prefix.{Successors, bad, goes}
 use Rattle.prefix.specs.LargestSuccessor.{insert, Ascending}
 use Rattle.page.specs.Page.{firstOf, secondOf}
-use Rattle.platform.specs.Programs.{Program}
-use Rattle.isa.specs.ListedEncodings.{opens32, decode16Of, decode32Of}
+use Rattle.platform.specs.Programs.{Program, decode16In, decode32In}
+use Rattle.isa.specs.ListedEncodings.{opens32}
 use Rattle.isa.specs.declared.Instruction.{Instruction}
 use Rattle.bundle.specs.Flow.{flowOf, listed}
 use Rattle.bundle.specs.declared.Flow.{Flow}
@@ -42,8 +42,8 @@ unfoldable pub successorsOf : Program → ℕ → Successors
 successorsOf program k =
     let first = firstOf (program .page) k in
     let second = secondOf (program .page) k in
-    cond (opens32 first) (wide (decode32Of first second) (k + 1))
-    (cond (opens32 second) bad (narrow program k (decode16Of first) (decode16Of second)))
+    cond (opens32 first) (wide (decode32In program first second) (k + 1))
+    (cond (opens32 second) bad (narrow program k (decode16In program first) (decode16In program second)))
 
 -- at most three, ascending and without repeats
 abbrev pub Few : Successors → Type 0

@@ -203,14 +203,14 @@ fn largest_at(page: &[u8], platform: Platform, k: u32) -> LargestSuccessor
     let first = h.first;
     let second = h.second;
     if isa::opens_32(first) {
-        return of_wide(isa32::decode32(first, second), k + 1);
+        return of_wide(profile::decode32(platform, first, second), k + 1);
     }
     if isa::opens_32(second) {
         return LargestSuccessor::Bad;
     }
     let place = (2 * k) as u16;
-    let i = isa16::decode16(first);
-    let j = isa16::decode16(second);
+    let i = profile::decode16(platform, first);
+    let j = profile::decode16(platform, second);
     after_first(
         flow_of(page, platform, place, i),
         is_listed(j),
@@ -223,9 +223,9 @@ fn largest_at(page: &[u8], platform: Platform, k: u32) -> LargestSuccessor
 pub fn read_bundle(page: &[u8], platform: Platform, k: u32) -> Read
     ensures { λ r. ⌜ seenRead r ≡ readBundle (programOf (now (page .entry)) platform) k ⌝ }
 {
-    if !page::fits(page) {
+    if let Verdict::Refused(why) = platform::of_program(page, platform) {
         return Read {
-            verdict: Verdict::Refused(Refusal::PageLength),
+            verdict: Verdict::Refused(why),
             largest: LargestSuccessor::Bad,
         };
     }

@@ -1,4 +1,5 @@
--- Demand 2 is met, by every call of `count` and of `read_bundle` that meets its contract as the checker reads it.
+-- Demand 2 is met: of any program, and so over any set of listed encodings; and by every call of `count` and of `read_bundle` that meets
+-- its contract as the checker reads it.
 use Prim.Native.Nat.{ℕ, suc, max}
 use native.Mathlib.Nat.{le-refl}
 use native.Mathlib.Omega.{arith}
@@ -8,11 +9,6 @@ use mathlib.Core.List.{List, [], _∷_}
 use mathlib.Core.Logic.{_⊎_, inl, inr, ⊎-elim}
 use lib.Dec.{ltb}
 use borrow.Author.Tests.{ltb-true, ltb-false, lt-ltb, lt-leb, le-leb}
-use contract.Lifetimes.{Lfts}
-use borrow.Fn.World.{ArgsD, ResD}
-use borrow.Fn.Kinds.{endedOf}
-use denote.Triple.Clauses.{AtExit}
-use denote.Ref.{now}
 use Rattle.page.specs.Page.{pageFits, bundlesIn}
 use Rattle.page.proofs.Theorems.{fitting}
 use Rattle.platform.specs.Programs.{Program, programOf}
@@ -20,15 +16,9 @@ use Rattle.prefix.specs.Prefix.{Successors, bad, goes, AllBelow}
 use Rattle.prefix.specs.LargestSuccessor.{largestOf, largestSuccessor}
 use Rattle.prefix.proofs.Theorems.{true-within, largest-within, unique, definition, single-pass-is, iterates-is}
 use Rattle.bundle.specs.Successors.{successorsOf}
-use Rattle.bundle.specs.Reader.{ReaderAnswer, readBundle, seenRead}
-use Rattle.bundle.proofs.read_bundle
-use Rattle.bundle.proofs.read_bundle.Kinds as read-kinds
-use Rattle.bundle.proofs.read_bundle.Reads as read-reads
-use Rattle.count.specs.Count.{countOf, CountAnswer, countProgram, seenCount}
-use Rattle.count.proofs.count
-use Rattle.count.proofs.count.Kinds as count-kinds
-use Rattle.count.proofs.count.Reads as count-reads
-use Rattle.claims.specs.Demand2.{IsCount, Counts, OneOf, Says, Reads}
+use Rattle.bundle.specs.Reader.{readBundle}
+use Rattle.count.specs.Count.{countOf, countProgram}
+use Rattle.claims.specs.Demand2.{IsCount, Counts, OneOf, Says, Reads, Demand2, countPage, countPlatform, readProgram, CallsMeetDemand2}
 
 -- ---- the count
 
@@ -44,10 +34,11 @@ is-count program fits =
       by-iteration = iterates-is (successorsOf program) (bundlesIn (program .page));
     }
 
-counts : (program : Program) (a : CountAnswer) → a ≡ countProgram program → Counts program a
-counts program a e = record {
-  allowed = λ fits. rw (e, fits) (refl, is-count program fits);
-  not-allowed = λ fits. rw (e, fits) (refl, refl);
+counts : (program : Program) → Counts program (countProgram program)
+counts program = record {
+  allowed = λ known fits. rw (known, fits) (refl, is-count program fits);
+  not-allowed = λ known fits. rw (known, fits) (refl, refl);
+  unknown = λ known. rw known (refl, refl);
 }
 
 -- ---- the reader
@@ -75,26 +66,22 @@ says bad = refl
 says (goes []) = refl
 says (goes (s ∷ ss)) = (s ∷ ss, refl, largest-one s ss, none-above s ss)
 
-reads : (program : Program) (k : ℕ) (a : ReaderAnswer) → a ≡ readBundle program k → Reads program k a
-reads program k a e = record {
-  inside = λ fits l. rw (e, fits, lt-leb (bundlesIn (program .page)) k l) (refl, says (successorsOf program k));
-  past = λ fits l. rw (e, fits, le-leb (bundlesIn (program .page)) k l) (refl, refl);
-  not-allowed = λ fits. rw (e, fits) (refl, refl);
+reads : (program : Program) (k : ℕ) → Reads program k (readBundle program k)
+reads program k = record {
+  inside = λ known fits l. rw (known, fits, lt-leb (bundlesIn (program .page)) k l) (refl, says (successorsOf program k));
+  past = λ known fits l. rw (known, fits, le-leb (bundlesIn (program .page)) k l) (refl, refl);
+  not-allowed = λ known fits. rw (known, fits) (refl, refl);
+  unknown = λ known. rw known (refl, refl);
 }
 
 -- ---- the demand
 
-pub record Demand2 : Type 1 where
-  -- every call of `count`: its program, its answer
-  pub counted : (κs : Lfts 1) (a : ArgsD count.signature κs) (x : ResD count.signature κs)
-      (s : AtExit (endedOf 1 count-kinds.ps count-kinds.r) κs) → count-reads.Post κs a x s → Counts (programOf (now (a .0)) (a .1 .0)) (seenCount x)
-  -- every call of `read_bundle`: its program, the number of its bundle, its answer
-  pub read : (κs : Lfts 1) (a : ArgsD read_bundle.signature κs) (x : ResD read_bundle.signature κs)
-      (s : AtExit (endedOf 1 read-kinds.ps read-kinds.r) κs) → read-reads.Post κs a x s
-      → Reads (programOf (now (a .0)) (a .1 .0)) (a .1 .1 .0) (seenRead x)
+pub demand2-of : (program : Program) → Demand2 program
+demand2-of program = record { counted = counts program; read = reads program }
 
-pub demand2 : Demand2
+-- the contracts are the definitions
+pub demand2 : CallsMeetDemand2
 demand2 = record {
-  counted = λ κs a x s h. counts (programOf (now (a .0)) (a .1 .0)) (seenCount x) h;
-  read = λ κs a x s h. reads (programOf (now (a .0)) (a .1 .0)) (a .1 .1 .0) (seenRead x) h;
+  counted = λ c. rw (c .contract) (demand2-of (programOf (countPage c) (countPlatform c)) .counted);
+  read = λ c. rw (c .contract) (demand2-of (readProgram c) .read (c .arguments .1 .1 .0));
 }

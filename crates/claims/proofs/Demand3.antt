@@ -11,21 +11,23 @@ use Rattle.series.proofs.Theorems as series
 use Rattle.instruction.specs.Fitness.{Fit}
 use Rattle.instruction.proofs.Kept.{keeps, starts}
 use Rattle.admission.proofs.Theorems.{accepts}
+use Rattle.claims.proofs.Admitted.{allowed-program}
 use Rattle.claims.specs.Demand3.{Allowed, FitStart, machineOf, CodeCall, ofRun, ofStep, handedTo, gaveBy, machine}
 
--- with any calls that give what the plain machine, or the refusal, gives
+-- over any setting, and so over any set of listed encodings, with any calls that give what the plain machine, or the refusal, gives
 pub demand3-of : (Call : Type 0) (handed : Call → Handed Setting) (gave : Call → Result)
     → ((setting : Setting) (c : Call) → gave c ≡ called (machineOf Call handed gave setting) (handed c))
     → (setting : Setting) → Allowed setting → (start : State) → FitStart setting start
     → (calls : List (InSeries Call)) → Series (machineOf Call handed gave setting) calls start
     → Demand3 (machineOf Call handed gave setting) calls start
 demand3-of Call handed gave meets setting allowed start fit calls h =
+    let program = allowed-program setting allowed in
     series.demand3 (machineOf Call handed gave setting) (Fit setting)
     (record {
-      keeps = keeps setting (allowed .pageAllowed);
-      starts = starts setting (allowed .pageAllowed);
+      keeps = keeps setting program;
+      starts = starts setting program;
       accepts = λ budget r ram f.
-          accepts setting r ram (allowed .pageAllowed) (f .ramFits) (allowed .externalAllowed) (f .recordFits) (f .placeFits);
+          accepts setting r ram program (f .ramFits) (allowed .externalAllowed) (f .recordFits) (f .placeFits);
       meets = meets setting;
     })
     calls start fit h

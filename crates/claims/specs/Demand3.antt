@@ -8,6 +8,7 @@ use mathlib.Core.Bool.{true}
 use mathlib.Core.Path.{_≡_}
 use lib.ListN.{length}
 use Rattle.page.specs.Page.{pageFits}
+use Rattle.isa.specs.Profiles.{isKnown}
 use Rattle.platform.specs.Programs.{Setting, programOf, settingOf}
 use Rattle.state.specs.Validation.{externalFits}
 use Rattle.plain.specs.PlainMachine.{Result}
@@ -26,6 +27,7 @@ use Rattle.machine.proofs.step.Reads as step-reads
 
 -- a setting, none of which the papers refuse
 pub record Allowed (s : Setting) : Type 0 where
+  pub profileKnown : isKnown (s .program .profile) ≡ true
   pub pageAllowed : pageFits (s .program .page) ≡ true
   pub externalAllowed : externalFits (length (s .external)) ≡ true
 

@@ -5,9 +5,8 @@ use mathlib.Core.Path.{_≡_}
 use lib.ListN.{length}
 use Rattle.page.specs.Page.{halfwordAt}
 use Rattle.platform.specs.Platforms.{platformOf, withSet}
-use Rattle.platform.specs.Programs.{Program, programOf, settingOf}
+use Rattle.platform.specs.Programs.{Program, programOf, decode16In, settingOf}
 use Rattle.platform.specs.declared.Platform.{Platform}
-use Rattle.isa.specs.ListedEncodings.{decode16Of}
 use Rattle.isa.specs.declared.Instruction.the-variants as instruction
 use Rattle.service.specs.Services.{serviceOf, endingOf, endingOn, endingIn}
 use Rattle.service.specs.declared.Service.{Service}
@@ -21,7 +20,7 @@ use Rattle.place.specs.Places.{following}
 use Rattle.instruction.specs.Fitness.{isExit}
 use Rattle.instruction.specs.Instructions.{exitOf, servedBy, served, instructionOf}
 use Rattle.machine.specs.Runs.{runOf}
-use Rattle.claims.specs.Pages.{pageOf}
+use Rattle.claims.specs.Pages.{countOn}
 
 -- ---- one page on one platform, with two sets
 
@@ -34,7 +33,7 @@ module _ (page : List ℕ) (platform : Platform) (a b : ℕ) where
 
   -- the halfword there, if it reads as a service, ends alike with both
   abbrev pub EndsAlike : ℕ → Type 0
-  EndsAlike place = (n : ℕ) → decode16Of (halfwordAt page place) ≡ instruction.Service n → endingIn withA n ≡ endingIn withB n
+  EndsAlike place = (n : ℕ) → decode16In withA (halfwordAt page place) ≡ instruction.Service n → endingIn withA n ≡ endingIn withB n
 
   -- nothing but endings goes by the set
   pub record EndingsAlone : Type 0 where
@@ -56,11 +55,11 @@ emptyIn page platform = programOf page (withSet platform 0)
 
 -- the count of BF00 DF80
 abbrev pub abortCount : ℕ → ℕ
-abortCount set = countProgram (programOf (pageOf (0xBF00 ∷ 0xDF80 ∷ [])) (platformOf set)) .count
+abortCount set = countOn (platformOf set 0) (0xBF00 ∷ 0xDF80 ∷ [])
 
 pub record EmptySet : Type 0 where
   -- every service ends as the build paper's table says
-  pub endings : (platform : Platform) (s : Service) → endingOn (withSet platform 0) s ≡ endingOf s
+  pub endings : (s : Service) → endingOn 0 s ≡ endingOf s
   -- and so the definitions that read an ending are the build paper's: terminators, jumps, services, and the exits of demand 3
   pub terminators : (page : List ℕ) (platform : Platform) (n : ℕ)
       → terminator (emptyIn page platform) (instruction.Service n) ≡ endsFlow (endingOf (serviceOf page n))

@@ -8,18 +8,17 @@ use Rattle.bits.specs.Integers.{SInt}
 use Rattle.isa.specs.declared.Instruction.the-variants.{B}
 use Rattle.branch.specs.Branches.{targetByte}
 use Rattle.platform.specs.Platforms.{defaultPlatform}
-use Rattle.platform.specs.Programs.{Setting, defaultProgram, programOf, settingOf}
-use Rattle.count.specs.Count.{countProgram}
+use Rattle.platform.specs.Programs.{Setting, defaultProgram, settingOf}
 use Rattle.state.specs.Record.{freshRecord, withRegister, withFlags, withPlace}
 use Rattle.state.specs.declared.Record.{Record}
 use Rattle.plain.specs.PlainMachine.{goesOn}
-use Rattle.place.specs.Places.{standsAt}
+use Rattle.place.specs.Places.{instructionAt}
 use Rattle.instruction.specs.Instructions.{instructionOf}
-use Rattle.claims.specs.Pages.{pageOf}
+use Rattle.claims.specs.Pages.{pageOf, countOn}
 
--- the count that the code answers for a page of these halfwords, where all direct syscalls return
+-- counts where all direct syscalls return, in the full profile
 abbrev pub counts : List ℕ → ℕ
-counts halfwords = countProgram (defaultProgram (pageOf halfwords)) .count
+counts = countOn defaultPlatform
 
 -- 2801 DB01: cmp r0, #1 and blt to bundle 2
 abbrev pub comparePage : List ℕ
@@ -27,7 +26,7 @@ comparePage = pageOf (0x2801 ∷ 0xDB01 ∷ 0xDF00 ∷ 0xBF00 ∷ 0xDF00 ∷ 0xB
 
 -- without external data
 abbrev pub comparing : Setting
-comparing = settingOf (programOf comparePage defaultPlatform) []
+comparing = settingOf (defaultProgram comparePage) []
 
 -- r0 = 0x80000000; after the compare; after the branch
 abbrev pub compared : Record
@@ -46,7 +45,7 @@ pub record Starred : Type 0 where
   pub loops : counts (0xE7FE ∷ 0xBF00 ∷ []) ≡ 1
   -- E7FE stands at place 1, a branch by 7FE; its target is byte 2, which is no bundle's first
   pub into-a-bundle : counts (0xBF00 ∷ 0xE7FE ∷ []) ≡ 0
-  pub branches : standsAt (pageOf (0xBF00 ∷ 0xE7FE ∷ [])) 1 ≡ B 0x7FE
+  pub branches : instructionAt (defaultProgram (pageOf (0xBF00 ∷ 0xE7FE ∷ []))) 1 ≡ B 0x7FE
   pub target-2 : targetByte 1 (SInt 11 0x7FE) ≡ pos 2
   pub back-from-second : counts (0xBF00 ∷ 0xE7FD ∷ []) ≡ 1
   pub before-page : counts (0xE7FC ∷ 0xBF00 ∷ []) ≡ 0

@@ -3,3 +3,4 @@ pub mod Demand2
 pub mod Examples
 pub mod Demand3
 pub mod EmptySet
+pub mod SmallProfile

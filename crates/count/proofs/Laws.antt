@@ -1,9 +1,10 @@
 -- A turn of the single pass, by what the reader answers.
 use mathlib.Core.Path.{_≡_, ap, _∙_}
-use mathlib.Core.Bool.{true, cond}
+use mathlib.Core.Bool.{cond}
 use Prim.Native.Nat.{ℕ, _<_}
-use Rattle.page.specs.Page.{pageFits, bundlesIn}
-use Rattle.platform.specs.Programs.{Program}
+use Rattle.refusal.specs.Refusals.{accepted, decision}
+use Rattle.page.specs.Page.{bundlesIn}
+use Rattle.platform.specs.Programs.{Program, programRules}
 use Rattle.prefix.specs.Prefix.{Successors, within}
 use Rattle.prefix.specs.LargestSuccessor.{largestSuccessor, readingOf}
 use Rattle.bundle.specs.Successors.{successorsOf}
@@ -11,7 +12,7 @@ use Rattle.bundle.specs.Reader.{ReaderAnswer, readBundle, seenRead}
 use Rattle.bundle.proofs.Theorems.{read-accepted}
 use Rattle.bundle.specs.declared.Read.{Read}
 
-pub turn : (program : Program) (k bound next : ℕ) (read : Read) → pageFits (program .page) ≡ true → k < bundlesIn (program .page)
+pub turn : (program : Program) (k bound next : ℕ) (read : Read) → decision (programRules program) ≡ accepted → k < bundlesIn (program .page)
     → seenRead read ≡ readBundle program k
     → ((x : Successors) → readingOf (read .largest) ≡ largestSuccessor x → next ≡ cond (within bound x) bound k)
     → next ≡ cond (within bound (successorsOf program k)) bound k

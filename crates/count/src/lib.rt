@@ -3,7 +3,6 @@ ghost use mathlib.Core.Path.{_≡_};
 ghost use Rattle.platform.specs.Programs.{programOf};
 ghost use Rattle.count.specs.Count.{countProgram, seenCount};
 use platform::Platform;
-use refusal::Refusal;
 use refusal::Verdict;
 
 pub struct Counted {
@@ -14,9 +13,9 @@ pub struct Counted {
 pub fn count(page: &[u8], platform: Platform) -> Counted
     ensures { λ r. ⌜ seenCount r ≡ countProgram (programOf (now (page .entry)) platform) ⌝ }
 {
-    if !page::fits(page) {
+    if let Verdict::Refused(why) = platform::of_program(page, platform) {
         return Counted {
-            verdict: Verdict::Refused(Refusal::PageLength),
+            verdict: Verdict::Refused(why),
             count: 0,
         };
     }

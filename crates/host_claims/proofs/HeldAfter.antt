@@ -8,10 +8,11 @@ use lib.Dec.{eqb, ltb, leb}
 use lib.ListN.{length, getD, take}
 use borrow.Author.Tests.{ltb-true, leb-true}
 use Rattle.laws.proofs.Tests.{both}
-use Rattle.refusal.specs.Refusals.{Decision, accepted, refused}
-use Rattle.page.specs.Page.{pageFits, bundlesIn}
+use Rattle.refusal.specs.Refusals.{Decision, accepted, refused, decision}
+use Rattle.page.specs.Page.{bundlesIn}
 use Rattle.page.proofs.Theorems.{fitting}
-use Rattle.platform.specs.Programs.{Program, Setting}
+use Rattle.platform.specs.Programs.{Program, programRules, Setting}
+use Rattle.platform.proofs.Theorems.{program-accepted}
 use Rattle.prefix.proofs.Theorems.{definition}
 use Rattle.bundle.specs.Successors.{successorsOf}
 use Rattle.count.specs.Count.{countOf, countProgram}
@@ -79,15 +80,15 @@ external-below : (external : ℕ) → externalFits external ≡ true → externa
 unfolding externalFits
 external-below external h = omega (arith, leb-true external 16777216 (both (leb external 16777216) (eqb (external % 256) 0) h .0))
 
-place-below : (program : Program) (place : ℕ) → pageFits (program .page) ≡ true → fitPlace program place ≡ true → place < 2 ^ 16
+place-below : (program : Program) (place : ℕ) → decision (programRules program) ≡ accepted → fitPlace program place ≡ true → place < 2 ^ 16
 unfolding fitPlace
 place-below program place p h =
     let counted : countProgram program .count ≡ countOf program = rw p in
-    let bundles = fitting (program .page) p in
+    let bundles = fitting (program .page) (program-accepted program p .1) in
     let below = ltb-true (place / 2) (countProgram program .count) (both (ltb (place / 2) (countProgram program .count)) _ h .0) in
     omega (arith, below, counted, definition (successorsOf program) (bundlesIn (program .page)) .inside, bundles)
 
-fit-held : (setting : Setting) (r : Record) (ram : List ℕ) → pageFits (setting .program .page) ≡ true → externalFits (length (setting .external)) ≡ true
+fit-held : (setting : Setting) (r : Record) (ram : List ℕ) → decision (programRules (setting .program)) ≡ accepted → externalFits (length (setting .external)) ≡ true
     → Fit setting r ram → Words r ram → Held r
 unfolding fitRecord
 fit-held setting r ram p e f w =
@@ -104,14 +105,14 @@ fit-held setting r ram p e f w =
 
 -- what is not refused is allowed and fit
 record Accepts (setting : Setting) (r : Record) (ram : List ℕ) : Type 0 where
-  allowedPage : pageFits (setting .program .page) ≡ true
+  allowedProgram : decision (programRules (setting .program)) ≡ accepted
   allowedData : externalFits (length (setting .external)) ≡ true
   fits : Fit setting r ram
 
 accepted-fits : (setting : Setting) (r : Record) (ram : List ℕ) → runDecision setting r ram ≡ accepted → Accepts setting r ram
 accepted-fits setting r ram e =
     let h = accepted-all setting r ram e in
-    record { allowedPage = h .0; allowedData = h .2; fits = record { recordFits = h .3; placeFits = h .4; ramFits = h .1 } }
+    record { allowedProgram = h .0; allowedData = h .2; fits = record { recordFits = h .3; placeFits = h .4; ramFits = h .1 } }
 
 module _ (setting : Setting) (p : Bytes (setting .program .page)) (e : Bytes (setting .external)) (total : ℕ) (r : Record) (ram : List ℕ) (h : Held r) (m : Bytes ram) where
   pub held-after : Held (runOf setting total r ram .rec)
@@ -120,9 +121,9 @@ module _ (setting : Setting) (p : Bytes (setting .program .page)) (e : Bytes (se
       go : (v : Decision) → runDecision setting r ram ≡ v → Held (callBy v (instructionOf setting) total r ram .rec)
       go accepted q =
           let a = accepted-fits setting r ram q in
-          fit-held setting _ _ (a .allowedPage) (a .allowedData)
+          fit-held setting _ _ (a .allowedProgram) (a .allowedData)
           (run-keeps (instructionOf setting) (Fit setting)
-          (λ s after f. keeps-leaves (Fit setting) (ServiceAt (setting .program) s) Known (instructionOf setting s after) (keeps setting (a .allowedPage) s after f))
+          (λ s after f. keeps-leaves (Fit setting) (ServiceAt (setting .program) s) Known (instructionOf setting s after) (keeps setting (a .allowedProgram) s after f))
           total 0 r ram (a .fits))
           (run-keeps (instructionOf setting) Words (λ s after w. words-kept setting p e s after w)
           total 0 r ram (record { eight = h .eight; words = h .words; bytes = m }))

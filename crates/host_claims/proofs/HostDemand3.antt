@@ -66,7 +66,7 @@ module _ (c : RecordCall) where
 
 keeps-bytes : (c : HostCall) → holdsRecord (lentTo c .bytes) ≡ false → KeepsBytes c
 keeps-bytes c e = record {
-  number = codeOf (decision (noRecordRules (lentTo c .setting .program .page) (lentTo c .setting .external) (lentTo c .ram)));
+  number = codeOf (decision (noRecordRules (lentTo c .setting) (lentTo c .ram)));
   gives = crossed-is c ∙ rw e;
 }
 

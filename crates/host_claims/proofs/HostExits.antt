@@ -9,7 +9,7 @@ use lib.Dec.{eqb, ltb}
 use borrow.Author.Tests.{le-leb}
 use Rattle.page.specs.Page.{bundlesIn, wordAt}
 use Rattle.service.specs.Services.{takesLiteral, literalOf, literalService, byLowByte, serviceOf, endingOf, endingOn}
-use Rattle.service.proofs.Theorems.{by-literal, by-itself, on-platform}
+use Rattle.service.proofs.Theorems.{by-literal, by-itself, set-changes}
 use Rattle.service.specs.declared.Service.{Service}
 use Rattle.service.specs.declared.Service.the-variants.{Return, Call, TailCall, Syscall, TailSyscall, LongBranch, Preload, SetBase, StoreAtSp, LoadAtSp, LowerSp, DirectSyscall, Validate, Breakpoint, CallRegister, TailCallRegister, Bad}
 use Rattle.state.specs.declared.Record.{Record}
@@ -18,7 +18,6 @@ use Rattle.instruction.specs.Instructions.{exitOf}
 use Rattle.instruction.specs.Fitness.{ServiceAt, isExit}
 use Rattle.series.specs.Demand3.{StopsBy, OwnCall}
 use Rattle.platform.specs.Programs.{Program, Setting}
-use Rattle.platform.specs.declared.Platform.{Platform}
 use Rattle.instruction.proofs.Words.{InWidth, in-width}
 use Rattle.crossing.specs.Exits.{exitNumbers, decodedExit}
 use Rattle.crossing.specs.declared.ExitNumbers.{ExitNumbers}
@@ -47,9 +46,9 @@ kinds (CallRegister n) = refl
 kinds (TailCallRegister n) = refl
 kinds Bad = refl
 
--- a platform makes no exit and takes none away
-same-exits : (platform : Platform) (s : Service) → isExit (endingOn platform s) ≡ isExit (endingOf s)
-same-exits platform s = ⊎-elim (ap isExit) (λ last. ap isExit (last .1) ∙ sym (ap isExit (last .0))) (on-platform platform s)
+-- a set of syscalls that never return makes no exit and takes none away
+same-exits : (set : ℕ) (s : Service) → isExit (endingOn set s) ≡ isExit (endingOf s)
+same-exits set s = ⊎-elim (ap isExit) (λ last. ap isExit (last .1) ∙ sym (ap isExit (last .0))) (set-changes set s)
 
 in-page : (page : List ℕ) (n : ℕ) → isExit (endingOf (literalService page n)) ≡ true → literalService page n ≡ literalOf (wordAt page n)
 unfolding literalService
@@ -96,8 +95,8 @@ decodes-at : (program : Program) (r : Record) {exit : Exit} (here : ServiceAt pr
 decodes-at program r here stop v h =
     let page = program .page in
     let exits : isExit (endingOf (serviceOf page (here .low))) ≡ true =
-    sym (same-exits (program .platform) (serviceOf page (here .low))) ∙ here .column in
-    let low : here .low < 256 = subst InWidth (here .stands) (in-width page (r .place)) in
+    sym (same-exits (program .neverReturn) (serviceOf page (here .low))) ∙ here .column in
+    let low : here .low < 256 = subst InWidth (here .stands) (in-width program (r .place)) in
     let decoded : decodedStop stop ≡ exitNumbers (serviceOf page (stop .value)) =
     subst (λ n. decodedExit n (stop .literal) ≡ exitNumbers (serviceOf page n)) v (told page (here .low) (stop .literal) low exits h) in
     let column = subst (λ n. isExit (endingOf (serviceOf page n)) ≡ true) v exits in

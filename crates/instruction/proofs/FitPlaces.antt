@@ -7,14 +7,16 @@ use mathlib.Core.Path.{_≡_, refl}
 use lib.Dec.{ltb}
 use borrow.Author.Tests.{ltb-true, lt-ltb, eqb-true, eqb-false, not-true}
 use Rattle.laws.proofs.Tests.{both}
-use Rattle.page.specs.Page.{pageFits, bundlesIn, firstOf, secondOf}
-use Rattle.platform.specs.Programs.{Program}
+use Rattle.refusal.specs.Refusals.{accepted, decision}
+use Rattle.page.specs.Page.{bundlesIn, firstOf, secondOf}
+use Rattle.platform.specs.Programs.{Program, decode16In, decode32In, programRules, encodingsIn}
 use Rattle.prefix.specs.Prefix.{bad, goes, Within, AllBelow}
 use Rattle.prefix.specs.LargestSuccessor.{insert}
 use Rattle.prefix.proofs.Successors.{insert-below}
 use Rattle.prefix.proofs.Theorems.{definition}
-use Rattle.isa.specs.ListedEncodings.{Row, row, opens32, decodeBy, listed32, decode16Of, decode32Of}
-use Rattle.isa.specs.Patterns.{matches}
+use Rattle.isa.specs.ListedEncodings.{opens32, listed32, wordOf}
+use Rattle.isa.specs.Profiles.{Encodings, decode32By}
+use Rattle.isa.proofs.Profiles.{decoded}
 use Rattle.isa.specs.declared.Instruction.{Instruction}
 use Rattle.isa.specs.declared.Instruction.the-variants.{Data, Memory, Cbz, Cbnz, Bcc, B, Service, Unlisted}
 use Rattle.bundle.specs.Flow.{terminator, jumpOf, flowBy, flowOf, listed}
@@ -25,7 +27,7 @@ use Rattle.bundle.specs.declared.Jump.the-variants as jump
 use Rattle.bundle.specs.declared.Flow.{Flow}
 use Rattle.bundle.specs.declared.Flow.the-variants.{Bad, Next, NextOr, To, Ends}
 use Rattle.count.specs.Count.{countOf, countProgram}
-use Rattle.place.specs.Places.{isEven, standsIn, standsAt, instructionAt, following, secondFits, fitPlace}
+use Rattle.place.specs.Places.{isEven, standsIn, instructionAt, following, secondFits, fitPlace}
 
 -- what holds of a flow's target and of what stands behind it; a bad flow leads nowhere
 abbrev Leads : (ℕ → Type 0) → Type 0 → Flow → Type 0
@@ -82,23 +84,9 @@ Straight (B imm11) = ⊥
 Straight (Service n) = ⊥
 Straight Unlisted = Unit {0}
 
--- whatever a row stands for
-abbrev AllStraight : List Row → Type 0
-AllStraight [] = Unit {0}
-AllStraight (row p means ∷ rows) = ((w : ℕ) → Straight (means w)) × AllStraight rows
-
-either-straight : (t : Bool) (i j : Instruction) → Straight i → Straight j → Straight (cond t i j)
-either-straight true i j p q = p
-either-straight false i j p q = q
-
-decoded-straight : (rows : List Row) (w : ℕ) → AllStraight rows → Straight (decodeBy rows w)
-unfolding decodeBy
-decoded-straight [] w h = tt
-decoded-straight (row p means ∷ rows) w h =
-    either-straight (matches p w) (means w) (decodeBy rows w) (h .0 w) (decoded-straight rows w (h .1))
-
-pub wide-straight : (first second : ℕ) → Straight (decode32Of first second)
-wide-straight first second = decoded-straight listed32 _ (omega arith)
+-- whatever the set of listed encodings is
+pub wide-straight : (encodings : Encodings) (first second : ℕ) → Straight (decode32By encodings first second)
+wide-straight encodings first second = decoded Straight tt encodings listed32 (omega arith) (wordOf first second)
 
 straight-next : (program : Program) (place : ℕ) (i : Instruction) → Straight i → listed i ≡ true → flowOf program place i ≡ Next
 unfolding flowOf
@@ -114,25 +102,25 @@ straight-next program place Unlisted s l = absurd (false≢true l)
 -- ---- bundle k, by its halfwords a and b, which lies within m
 
 two-narrow : (program : Program) (a b : ℕ) → secondFits program a b ≡ true
-    → (opens32 a ≡ false) × (opens32 b ≡ false) × (terminator program (decode16Of a) ≡ false)
+    → (opens32 a ≡ false) × (opens32 b ≡ false) × (terminator program (decode16In program a) ≡ false)
 unfolding secondFits
 two-narrow program a b s =
-    let goesOn = both (not (opens32 a) && not (opens32 b)) (not (terminator program (decode16Of a))) s in
+    let goesOn = both (not (opens32 a) && not (opens32 b)) (not (terminator program (decode16In program a))) s in
     let opens = both (not (opens32 a)) (not (opens32 b)) (goesOn .0) in
-    (not-true (opens32 a) (opens .0), not-true (opens32 b) (opens .1), not-true (terminator program (decode16Of a)) (goesOn .1))
+    (not-true (opens32 a) (opens .0), not-true (opens32 b) (opens .1), not-true (terminator program (decode16In program a)) (goesOn .1))
 
 module _ (program : Program) (m k a b : ℕ) where
   abbrev Inside : Bool → Bool → Type 0
   Inside wideFirst wideSecond =
-      Within m (cond wideFirst (wide (decode32Of a b) (k + 1)) (cond wideSecond bad (narrow program k (decode16Of a) (decode16Of b))))
+      Within m (cond wideFirst (wide (decode32In program a b) (k + 1)) (cond wideSecond bad (narrow program k (decode16In program a) (decode16In program b))))
 
   pair-leads : Inside false false
-      → Leads (λ t. t < m) (terminator program (decode16Of a) ≡ false) (flowOf program (2 * k) (decode16Of a))
-      × (terminator program (decode16Of a) ≡ false → Leads (λ t. t < m) (k + 1 < m) (flowOf program (2 * k + 1) (decode16Of b)))
+      → Leads (λ t. t < m) (terminator program (decode16In program a) ≡ false) (flowOf program (2 * k) (decode16In program a))
+      × (terminator program (decode16In program a) ≡ false → Leads (λ t. t < m) (k + 1 < m) (flowOf program (2 * k + 1) (decode16In program b)))
   unfolding flowOf
   pair-leads c =
-      let i = decode16Of a in
-      let j = decode16Of b in
+      let i = decode16In program a in
+      let j = decode16In program b in
       first-leads m (k + 1) (terminator program i) (listed j) (jumpOf program (2 * k) i) (flowOf program (2 * k + 1) j) c
 
   -- behind a 32-bit instruction the next bundle stands, behind a 16-bit one the second
@@ -141,20 +129,20 @@ module _ (program : Program) (m k a b : ℕ) where
   BehindFirst false = secondFits program a b ≡ true
 
   first-half : (place : ℕ) → place ≡ 2 * k → Inside (opens32 a) (opens32 b)
-      → Leads (λ t. t < m) (BehindFirst (opens32 a)) (flowOf program place (standsIn true a b))
+      → Leads (λ t. t < m) (BehindFirst (opens32 a)) (flowOf program place (standsIn (encodingsIn program) true a b))
   unfolding standsIn secondFits
   first-half place e c = rw e (go (opens32 a) (opens32 b) refl refl c)
     where
       go : (x y : Bool) → opens32 a ≡ x → opens32 b ≡ y → Inside x y
-          → Leads (λ t. t < m) (BehindFirst x) (flowOf program (2 * k) (cond x (decode32Of a b) (decode16Of a)))
+          → Leads (λ t. t < m) (BehindFirst x) (flowOf program (2 * k) (cond x (decode32In program a b) (decode16In program a)))
       go true y p q c =
-          let next = if-listed m (listed (decode32Of a b)) ((k + 1) ∷ []) c in
-          rw (straight-next program (2 * k) (decode32Of a b) (wide-straight a b) (next .0)) (next .1 .0)
+          let next = if-listed m (listed (decode32In program a b)) ((k + 1) ∷ []) c in
+          rw (straight-next program (2 * k) (decode32In program a b) (wide-straight (encodingsIn program) a b) (next .0)) (next .1 .0)
       go false true p q c = absurd c
-      go false false p q c = leads-map (λ t h. h) (λ n. rw (p, q, n)) (flowOf program (2 * k) (decode16Of a)) (pair-leads c .0)
+      go false false p q c = leads-map (λ t h. h) (λ n. rw (p, q, n)) (flowOf program (2 * k) (decode16In program a)) (pair-leads c .0)
 
   second-half : (place : ℕ) → place ≡ 2 * k + 1 → Inside (opens32 a) (opens32 b) → secondFits program a b ≡ true
-      → Leads (λ t. t < m) (k + 1 < m) (flowOf program place (standsIn false a b))
+      → Leads (λ t. t < m) (k + 1 < m) (flowOf program place (standsIn (encodingsIn program) false a b))
   unfolding standsIn
   second-half place e c s =
       let n = two-narrow program a b s in
@@ -166,7 +154,7 @@ module _ (program : Program) (m k a b : ℕ) where
 abbrev pub LeadsFrom : Program → ℕ → Flow → Type 0
 LeadsFrom program place = Leads (λ b. fitPlace program (2 * b) ≡ true) (fitPlace program (following (program .page) place) ≡ true)
 
-module _ (program : Program) (f : pageFits (program .page) ≡ true) where
+module _ (program : Program) (f : decision (programRules program) ≡ accepted) where
   counted : countProgram program .count ≡ countOf program
   counted = rw f
 
@@ -180,8 +168,8 @@ module _ (program : Program) (f : pageFits (program .page) ≡ true) where
   bundle-fits b l = let even : 2 * b % 2 ≡ 0 = omega arith in fits (2 * b) (omega arith) (rw even)
 
   stands : (place : ℕ) → place / 2 < countOf program
-      → instructionAt program place ≡ standsIn (isEven place) (firstOf (program .page) (place / 2)) (secondOf (program .page) (place / 2))
-  unfolding standsAt
+      → instructionAt program place ≡ standsIn (encodingsIn program) (isEven place) (firstOf (program .page) (place / 2)) (secondOf (program .page) (place / 2))
+  unfolding instructionAt
   stands place l =
       let inside = definition (successorsOf program) (bundlesIn (program .page)) .inside in
       rw (lt-ltb (place / 2) (bundlesIn (program .page)) (omega (arith, inside)))
@@ -218,16 +206,16 @@ module _ (program : Program) (f : pageFits (program .page) ≡ true) where
       second = secondOf (program .page) (place / 2)
 
       go : (even : Bool) → isEven place ≡ even → (even || secondFits program first second) ≡ true → place / 2 < countOf program
-          → LeadsFrom program place (flowOf program place (standsIn even first second))
+          → LeadsFrom program place (flowOf program place (standsIn (encodingsIn program) even first second))
       go true p s l =
           let even = eqb-true (place % 2) 0 p in
-          leads-map bundle-fits (behind-even place even l (opens32 first)) (flowOf program place (standsIn true first second))
+          leads-map bundle-fits (behind-even place even l (opens32 first)) (flowOf program place (standsIn (encodingsIn program) true first second))
           (first-half program (countOf program) (place / 2) first second place (omega arith) (closed (place / 2) l))
       go false p s l =
           let odd = eqb-false (place % 2) 0 p in
           let next : place + 1 ≡ 2 * (place / 2 + 1) = omega arith in
           let n = two-narrow program first second s in
-          leads-map bundle-fits (λ h. rw (n .0, next) (bundle-fits (place / 2 + 1) h)) (flowOf program place (standsIn false first second))
+          leads-map bundle-fits (λ h. rw (n .0, next) (bundle-fits (place / 2 + 1) h)) (flowOf program place (standsIn (encodingsIn program) false first second))
           (second-half program (countOf program) (place / 2) first second place (omega arith) (closed (place / 2) l) s)
 
 -- an instruction that leads anywhere is listed

@@ -11,8 +11,8 @@ use lib.ListN.{length}
 use Rattle.bits.specs.Fields.{bits}
 use Rattle.bits.specs.Integers.{SInt}
 use Rattle.arm.specs.Conditions.{conditionHolds}
-use Rattle.page.specs.Page.{pageFits}
-use Rattle.platform.specs.Programs.{Program, Setting}
+use Rattle.refusal.specs.Refusals.{accepted, decision}
+use Rattle.platform.specs.Programs.{Program, programRules, Setting}
 use Rattle.isa.specs.declared.Instruction.{Instruction}
 use Rattle.isa.specs.declared.Instruction.the-variants.{Data, Memory, Cbz, Cbnz, Bcc, B, Unlisted}
 use Rattle.isa.specs.declared.Instruction.the-variants as instruction
@@ -133,13 +133,13 @@ module _ (setting : Setting) (r : Record) (ram : List ℕ) (f : Fit setting r ra
       (service-leaves (length (setting .external)) r ram fit-writes (f .ramFits) (serviceOf page n))
   each-kept Unlisted s h = absurd h
 
-pub keeps : (setting : Setting) → pageFits (setting .program .page) ≡ true → (r : Record) (ram : List ℕ)
+pub keeps : (setting : Setting) → decision (programRules (setting .program)) ≡ accepted → (r : Record) (ram : List ℕ)
     → Fit setting r ram → Keeps (Fit setting) (ServiceAt (setting .program) r) Known (instructionOf setting r ram)
 unfolding instructionOf
 keeps setting e r ram f =
     each-kept setting r ram f (instructionAt (setting .program) (r .place)) refl (leads (setting .program) e (r .place) (f .placeFits))
 
-pub starts : (setting : Setting) → pageFits (setting .program .page) ≡ true → (r : Record) (ram : List ℕ) → Fit setting r ram
+pub starts : (setting : Setting) → decision (programRules (setting .program)) ≡ accepted → (r : Record) (ram : List ℕ) → Fit setting r ram
     → Starts (setting .program) r
 starts setting e r ram f = record {
   placeFits = f .placeFits;

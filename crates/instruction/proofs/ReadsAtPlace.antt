@@ -1,12 +1,11 @@
 -- The definition of an instruction reads the page at the place: two pages of one length that agree in the place's bundle, and in the
--- literal that the instruction there names, give the same effect on one platform, whatever their other bundles and
+-- literal that the instruction there names, give the same effect with one set and one profile, whatever their other bundles and
 -- so their counts are.
 use Prim.Native.Nat.{ℕ, _+_, _/_}
 use mathlib.Core.List.{List}
 use mathlib.Core.Path.{_≡_, refl, ap, _∙_}
 use Rattle.page.specs.Page.{bundlesIn, wordAt}
-use Rattle.platform.specs.Programs.{programOf, settingOf}
-use Rattle.platform.specs.declared.Platform.{Platform}
+use Rattle.platform.specs.Programs.{Program, withPage, settingOf}
 use Rattle.isa.specs.declared.Access.{Access}
 use Rattle.isa.specs.declared.Access.the-variants.{LdrLit, StrSp, LdrSp, Str, Strb, Strh, Ldr, Ldrb, Ldrh, Ldrsb, Ldrsh}
 use Rattle.isa.specs.declared.Instruction.{Instruction}
@@ -14,11 +13,14 @@ use Rattle.isa.specs.declared.Instruction.the-variants.{Data, Memory, Cbz, Cbnz
 use Rattle.service.specs.Services.{serviceOf, literalService}
 use Rattle.state.specs.declared.Record.{Record}
 use Rattle.access.specs.LoadsAndStores.{literalLoaded, accessed}
-use Rattle.place.specs.Places.{standsAt, following}
+use Rattle.place.specs.Places.{instructionAt, following}
 use Rattle.instruction.specs.Instructions.{exitOf, served, effectOf, instructionOf}
 use Rattle.instruction.specs.AtPlace.{AccessNames, Names, Agree}
 
-module _ (page other : List ℕ) (platform : Platform) (external : List ℕ) (r : Record) (ram : List ℕ) (same : bundlesIn page ≡ bundlesIn other) where
+module _ (program : Program) (other external : List ℕ) (r : Record) (ram : List ℕ) (same : bundlesIn (program .page) ≡ bundlesIn other) where
+  abbrev page : List ℕ
+  page = program .page
+
   access-same : (a : Access) → ((k : ℕ) → AccessNames (r .place) a k → wordAt page k ≡ wordAt other k)
       → accessed page external a r ram ≡ accessed other external a r ram
   unfolding accessed literalLoaded
@@ -44,7 +46,7 @@ module _ (page other : List ℕ) (platform : Platform) (external : List ℕ) (r 
 
   effect-same : following page (r .place) ≡ following other (r .place)
       → (i : Instruction) → ((k : ℕ) → Names (r .place) i k → wordAt page k ≡ wordAt other k)
-      → effectOf (settingOf (programOf page platform) external) r ram i ≡ effectOf (settingOf (programOf other platform) external) r ram i
+      → effectOf (settingOf program external) r ram i ≡ effectOf (settingOf (withPage program other) external) r ram i
   unfolding effectOf served
   effect-same f (Data operation) w = rw f
   effect-same f (Memory a) w = rw (f, access-same a w)
@@ -55,15 +57,15 @@ module _ (page other : List ℕ) (platform : Platform) (external : List ℕ) (r 
   effect-same f (Service n) w = rw (f, service-same n (w n refl), exit-same n (w n refl))
   effect-same f Unlisted w = refl
 
-pub reads-at-place : (page other : List ℕ) (platform : Platform) (external : List ℕ) (r : Record) (ram : List ℕ) → Agree page other (r .place)
-    → instructionOf (settingOf (programOf page platform) external) r ram ≡ instructionOf (settingOf (programOf other platform) external) r ram
-unfolding instructionOf standsAt following
-reads-at-place page other platform external r ram a =
-    effect-same page other platform external r ram (a .bundles) behind (standsAt page (r .place)) (a .literal)
-    ∙ ap (effectOf (settingOf (programOf other platform) external) r ram) stands
+pub reads-at-place : (program : Program) (other external : List ℕ) (r : Record) (ram : List ℕ) → Agree program other (r .place)
+    → instructionOf (settingOf program external) r ram ≡ instructionOf (settingOf (withPage program other) external) r ram
+unfolding instructionOf instructionAt following
+reads-at-place program other external r ram a =
+    effect-same program other external r ram (a .bundles) behind (instructionAt program (r .place)) (a .literal)
+    ∙ ap (effectOf (settingOf (withPage program other) external) r ram) stands
   where
-    behind : following page (r .place) ≡ following other (r .place)
+    behind : following (program .page) (r .place) ≡ following other (r .place)
     behind = rw (a .first)
 
-    stands : standsAt page (r .place) ≡ standsAt other (r .place)
+    stands : instructionAt program (r .place) ≡ instructionAt (withPage program other) (r .place)
     stands = rw (a .bundles, a .first, a .second)

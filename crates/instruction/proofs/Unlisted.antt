@@ -19,9 +19,8 @@ use Rattle.branch.specs.declared.Target.{Target}
 use Rattle.branch.specs.declared.Target.the-variants.{At}
 use Rattle.branch.specs.declared.Target.the-variants as target
 use Rattle.platform.specs.Programs.{Setting}
-use Rattle.platform.specs.declared.Platform.{Platform}
 use Rattle.service.specs.Services.{serviceOf, endingOf, endingOn, endingIn}
-use Rattle.service.proofs.Theorems.{on-platform}
+use Rattle.service.proofs.Theorems.{set-changes}
 use Rattle.service.specs.declared.Ending.{Ending}
 use Rattle.service.specs.declared.Ending.the-variants as ending
 use Rattle.service.specs.declared.Service.{Service as AnyService}
@@ -85,9 +84,9 @@ bad-ending (service.CallRegister n) e = cc
 bad-ending (service.TailCallRegister n) e = cc
 bad-ending service.Bad e = refl
 
--- whatever the platform
-bad-on : (platform : Platform) (s : AnyService) → endingOn platform s ≡ ending.Bad ↔ s ≡ service.Bad
-bad-on platform s = (λ e. ⊎-elim (λ same. bad-ending s (sym same ∙ e)) (λ last. absurd (true≢false cc)) (on-platform platform s), λ h. ap (endingOn platform) h)
+-- whatever the set
+bad-on : (set : ℕ) (s : AnyService) → endingOn set s ≡ ending.Bad ↔ s ≡ service.Bad
+bad-on set s = (λ e. ⊎-elim (λ same. bad-ending s (sym same ∙ e)) (λ last. absurd (true≢false cc)) (set-changes set s), λ h. ap (endingOn set) h)
 
 -- ---- every instruction
 
@@ -112,7 +111,7 @@ unlisted-each setting r ram (Service n) =
     let s = serviceOf page n in
     let bad = bad-served (endingIn (setting .program) n) (exitOf page n) r (following page (r .place))
     (serviceDoes (length (setting .external)) s r ram) in
-    let on = bad-on (setting .program .platform) s in
+    let on = bad-on (setting .program .neverReturn) s in
     (λ e. on .0 (bad .0 e), λ h. bad .1 (on .1 h))
 unlisted-each setting r ram Unlisted = (λ e. tt, λ h. refl)
 

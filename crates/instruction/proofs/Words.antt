@@ -22,8 +22,9 @@ use Rattle.endian.specs.LittleEndian.{widthOf, loadLE, storeLE}
 use Rattle.endian.proofs.Theorems.{load-below}
 use Rattle.endian.specs.declared.Size.{Size}
 use Rattle.endian.specs.declared.Size.the-variants.{Byte, Halfword, Word}
-use Rattle.isa.specs.ListedEncodings.{Row, row, opens32, decodeBy, listed16, listed32, imm16Of, wordOf, decode16Of, decode32Of}
-use Rattle.isa.specs.Patterns.{matches}
+use Rattle.isa.specs.ListedEncodings.{opens32, listed16, listed32, imm16Of, wordOf}
+use Rattle.isa.specs.Profiles.{Encodings, decode16By, decode32By}
+use Rattle.isa.proofs.Profiles.{EachRow, decoded}
 use Rattle.isa.specs.declared.Instruction.{Instruction}
 use Rattle.isa.specs.declared.Instruction.the-variants.{Data, Memory, Cbz, Cbnz, Bcc, B, Unlisted}
 use Rattle.isa.specs.declared.Instruction.the-variants as instruction
@@ -31,7 +32,8 @@ use Rattle.state.specs.Record.{registerIn}
 use Rattle.writing.specs.declared.Write.{Write}
 use Rattle.writing.specs.declared.Write.the-variants.{NoRegister, Register}
 use Rattle.compute.specs.Computed.{lowByte, computed}
-use Rattle.place.specs.Places.{isEven, standsIn, standsAt}
+use Rattle.platform.specs.Programs.{Program, encodingsIn}
+use Rattle.place.specs.Places.{isEven, standsIn, instructionAt}
 
 -- ---- lists of numbers below a bound
 
@@ -129,16 +131,12 @@ InWidth (B imm11) = Unit {0}
 InWidth (instruction.Service n) = n < 256
 InWidth Unlisted = Unit {0}
 
-abbrev RowsInWidth : List Row → Type 0
-RowsInWidth [] = Unit {0}
-RowsInWidth (row p m ∷ rows) = ((w : ℕ) → InWidth (m w)) × RowsInWidth rows
-
 -- each row, in the order of the listed encodings
 infixr 5 _&_
 _&_ : {A B : Type 0} → A → B → A × B
 a & b = (a, b)
 
-rows16 : RowsInWidth listed16
+rows16 : EachRow InWidth listed16
 rows16 =
     (λ w regs sp f h. lsl-word (registerIn regs (bits w 5 3)) (bits w 10 6) f (h _))
     & (λ w regs sp f h. lsr-word (registerIn regs (bits w 5 3)) (immediateAmount (bits w 10 6)) f (h _))
@@ -192,7 +190,7 @@ rows16 =
     & (λ w. omega arith)
     & tt
 
-rows32 : RowsInWidth listed32
+rows32 : EachRow InWidth listed32
 rows32 =
     (λ w. tt)
     & (λ w. tt)
@@ -208,23 +206,18 @@ rows32 =
     & (λ w regs sp f h. udiv-word (registerIn regs (bits w 18 16)) (registerIn regs (bits w 2 0)) (h _))
     & tt
 
-decoded-in-width : (rows : List Row) → RowsInWidth rows → (w : ℕ) → InWidth (decodeBy rows w)
-unfolding decodeBy
-decoded-in-width [] h w = tt
-decoded-in-width (row p m ∷ rows) h w = go (matches p w) (decoded-in-width rows (h .1) w)
+pub in-width : (program : Program) (place : ℕ) → InWidth (instructionAt program place)
+unfolding instructionAt standsIn
+in-width program place =
+    let first = firstOf (program .page) (place / 2) in
+    go (ltb (place / 2) (bundlesIn (program .page))) (opens32 first) (isEven place) first (secondOf (program .page) (place / 2))
   where
-    go : (t : Bool) → InWidth (decodeBy rows w) → InWidth (cond t (m w) (decodeBy rows w))
-    go true rest = h .0 w
-    go false rest = rest
+    encodings : Encodings
+    encodings = encodingsIn program
 
-pub in-width : (page : List ℕ) (place : ℕ) → InWidth (standsAt page place)
-unfolding standsAt standsIn
-in-width page place =
-    go (ltb (place / 2) (bundlesIn page)) (opens32 (firstOf page (place / 2))) (isEven place) (firstOf page (place / 2)) (secondOf page (place / 2))
-  where
     go : (inside wide even : Bool) (first second : ℕ)
-        → InWidth (cond inside (cond wide (cond even (decode32Of first second) Unlisted) (decode16Of (cond even first second))) Unlisted)
-    go true true true first second = decoded-in-width listed32 rows32 (wordOf first second)
+        → InWidth (cond inside (cond wide (cond even (decode32By encodings first second) Unlisted) (decode16By encodings (cond even first second))) Unlisted)
+    go true true true first second = decoded InWidth tt encodings listed32 rows32 (wordOf first second)
     go true true false first second = tt
-    go true false even first second = decoded-in-width listed16 rows16 (cond even first second)
+    go true false even first second = decoded InWidth tt encodings listed16 rows16 (cond even first second)
     go false wide even first second = tt

@@ -270,4 +270,4 @@ module _ (setting : Setting) (p : Below 256 (setting .program .page)) (e : Below
 
   pub words-kept : Leaves Words (instructionOf setting r ram)
   unfolding instructionOf
-  words-kept = each-words (instructionAt (setting .program) (r .place)) (in-width page (r .place))
+  words-kept = each-words (instructionAt (setting .program) (r .place)) (in-width (setting .program) (r .place))

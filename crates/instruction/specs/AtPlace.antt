@@ -9,7 +9,8 @@ use Rattle.isa.specs.declared.Access.{Access}
 use Rattle.isa.specs.declared.Access.the-variants.{LdrLit, StrSp, LdrSp, Str, Strb, Strh, Ldr, Ldrb, Ldrh, Ldrsb, Ldrsh}
 use Rattle.isa.specs.declared.Instruction.{Instruction}
 use Rattle.isa.specs.declared.Instruction.the-variants.{Data, Memory, Cbz, Cbnz, Bcc, B, Service, Unlisted}
-use Rattle.place.specs.Places.{standsAt}
+use Rattle.platform.specs.Programs.{Program}
+use Rattle.place.specs.Places.{instructionAt}
 use Rattle.bits.specs.Fields.{bits}
 use Rattle.bits.specs.Integers.{SInt}
 use Rattle.arm.specs.Conditions.{conditionHolds}
@@ -44,11 +45,11 @@ Names place (B imm11) k = ⊥
 Names place (Service n) k = k ≡ n
 Names place Unlisted k = ⊥
 
-pub record Agree (page other : List ℕ) (place : ℕ) : Type 0 where
-  pub bundles : bundlesIn page ≡ bundlesIn other
-  pub first : firstOf page (place / 2) ≡ firstOf other (place / 2)
-  pub second : secondOf page (place / 2) ≡ secondOf other (place / 2)
-  pub literal : (k : ℕ) → Names place (standsAt page place) k → wordAt page k ≡ wordAt other k
+pub record Agree (program : Program) (other : List ℕ) (place : ℕ) : Type 0 where
+  pub bundles : bundlesIn (program .page) ≡ bundlesIn other
+  pub first : firstOf (program .page) (place / 2) ≡ firstOf other (place / 2)
+  pub second : secondOf (program .page) (place / 2) ≡ secondOf other (place / 2)
+  pub literal : (k : ℕ) → Names place (instructionAt program place) k → wordAt (program .page) k ≡ wordAt other k
 
 -- a service is bad if its literal is missing or bad; a target if it lies before the page or inside a bundle
 abbrev pub Meaningless : List ℕ → Record → Instruction → Type 0

@@ -1,3 +1,4 @@
 pub mod Fields
 pub mod Counting
 pub mod Theorems
+pub mod Profiles

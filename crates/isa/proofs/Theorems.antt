@@ -117,7 +117,7 @@ abbrev pub ofLength : ℕ → List Row → Bool
 ofLength n [] = true
 ofLength n (row p m ∷ rows) = eqb (length p) n && ofLength n rows
 
-no-other : (p : List Bit) (rows : List Row) → clear p rows ≡ true → (w : ℕ) → matches p w ≡ true → matchesAny rows w ≡ false
+pub no-other : (p : List Bit) (rows : List Row) → clear p rows ≡ true → (w : ℕ) → matches p w ≡ true → matchesAny rows w ≡ false
 no-other p [] c w m = refl
 no-other p (row q f ∷ rows) c w m =
     let d = both (conflict p q) (clear p rows) c in

@@ -1,3 +1,4 @@
 pub mod Patterns
 pub mod ListedEncodings
 pub mod Rows
+pub mod Profiles

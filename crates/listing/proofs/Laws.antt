@@ -1,5 +1,5 @@
 -- A listing that grows line by line, and what the reader and the count answer.
-use mathlib.Core.Path.{_≡_, sym, ap, _∙_}
+use mathlib.Core.Path.{_≡_, refl, sym, ap, _∙_}
 use mathlib.Core.Bool.{true}
 use mathlib.Core.List.{List, [], _++_, append-assoc, append-nil}
 use Prim.Native.Nat.{ℕ, zero, suc, _+_, _<_}
@@ -14,6 +14,7 @@ use Rattle.refusal.specs.Refusals.{accepted, refusalNumber, decisionOf}
 use Rattle.refusal.proofs.Theorems.{passes}
 use Rattle.page.specs.Page.{pageFits, bundlesIn, firstOf, secondOf}
 use Rattle.platform.specs.Programs.{defaultProgram}
+use Rattle.platform.proofs.Theorems.{program-accepts}
 use Rattle.prefix.specs.LargestSuccessor.{readingOf}
 use Rattle.bundle.specs.Reader.{ReaderAnswer, readBundle, seenRead}
 use Rattle.bundle.proofs.Theorems.{read-accepted}
@@ -47,7 +48,7 @@ pub line-is : {first second count : ℕ} (page : List ℕ) (k : ℕ) (read : Rea
     → pageFits page ≡ true → count ≡ countOf (defaultProgram page) → k < bundlesIn page
     → first ≡ firstOf page k → second ≡ secondOf page k → seenRead read ≡ readBundle (defaultProgram page) k
     → bundleText k first second (ltb k count) (readingOf (read .largest)) ≡ lineOf page k
-line-is page k read f c l p q r = rw (p, q, c, ap (λ (a : ReaderAnswer). a .reading) r, read-accepted (defaultProgram page) k f l)
+line-is page k read f c l p q r = rw (p, q, c, ap (λ (a : ReaderAnswer). a .reading) r, read-accepted (defaultProgram page) k (program-accepts (defaultProgram page) refl f) l)
 
 decision-is : {counted : Counted} {verdict : Verdict} (page : List ℕ) → seenCount counted ≡ countProgram (defaultProgram page) → counted .verdict ≡ verdict
     → countProgram (defaultProgram page) .decision ≡ decisionOf verdict

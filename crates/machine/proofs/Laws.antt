@@ -25,7 +25,8 @@ use Rattle.isa.specs.declared.Instruction.the-variants.{Data}
 use Rattle.isa.specs.declared.Instruction.the-variants as instruction
 use Rattle.branch.specs.declared.Target.{Target}
 use Rattle.branch.specs.declared.Target.the-variants as target
-use Rattle.platform.specs.Programs.{Setting, programOf, settingOf}
+use Rattle.platform.specs.Programs.{Program, Setting, programOf, settingOf, encodingsIn}
+use Rattle.platform.proofs.Theorems.{program-accepted}
 use Rattle.platform.specs.declared.Platform.{Platform}
 use Rattle.service.specs.Services.{serviceOf, endingOn}
 use Rattle.service.specs.declared.Ending.{Ending}
@@ -46,7 +47,7 @@ use Rattle.stop.specs.Stops.{Exit, direct, byLiteral, service, fault}
 use Rattle.stop.specs.Stops as stops
 use Rattle.plain.specs.PlainMachine.{Effect, goesOn, exits, faults, unlisted, Result, onward, plain}
 use Rattle.plain.proofs.Theorems.{turn}
-use Rattle.place.specs.Places.{isEven, standsIn, standsAt, instructionAt, following}
+use Rattle.place.specs.Places.{isEven, standsIn, instructionAt, following}
 use Rattle.instruction.specs.Instructions.{endAt, branchTo, branchIf, exitOf, servedBy, served, writesOf, effectOf, instructionOf}
 use Rattle.machine.specs.Executed.{exitEnd, Ended, executedOf, effectRam, Executes, endedBy}
 use Rattle.machine.specs.declared.End.{End}
@@ -95,7 +96,7 @@ branching r ram taken held next t to x p s h = rw (← p, ← s) h
 
 -- a service, by its meaning and its ending
 pub serving : (page : List ℕ) (platform : Platform) (external : List ℕ) (r : Record) (ram : List ℕ) (n : ℕ) (s : Service) (e : Ending)
-    → s ≡ serviceOf page n → e ≡ endingOn platform s
+    → s ≡ serviceOf page n → e ≡ endingOn (platform .«never_return») s
     → served (settingOf (programOf page platform) external) r ram n
     ≡ servedBy e (exitOf page n) r (following page (r .place)) (serviceDoes (length external) s r ram)
 unfolding served
@@ -144,12 +145,16 @@ turns instruction total steps r ram left x end s result l h e w inv =
 pub other-tag : OneOf (1 ∷ 2 ∷ 3 ∷ 4 ∷ 5 ∷ 6 ∷ 7 ∷ []) 0 → ⊥
 other-tag h = miss (1 ∷ 2 ∷ 3 ∷ 4 ∷ 5 ∷ 6 ∷ 7 ∷ []) 0 tt h
 
-pub data-inside : (page : List ℕ) (place : ℕ) (operation : Operation) → standsAt page place ≡ Data operation
-    → place / 2 < length page / 4
-unfolding standsAt
-data-inside page place operation =
-    by (ltb (place / 2) (length page / 4)) (standsIn (isEven place) (firstOf page (place / 2)) (secondOf page (place / 2))) refl
+pub data-inside : (program : Program) (place : ℕ) (operation : Operation) → instructionAt program place ≡ Data operation
+    → place / 2 < length (program .page) / 4
+unfolding instructionAt
+data-inside program place operation =
+    by (ltb (place / 2) (length page / 4)) (standsIn (encodingsIn program) (isEven place) (firstOf page (place / 2)) (secondOf page (place / 2)))
+    refl
   where
+    page : List ℕ
+    page = program .page
+
     by : (t : Bool) (i : Instruction) → ltb (place / 2) (length page / 4) ≡ t → cond t i instruction.Unlisted ≡ Data operation
         → place / 2 < length page / 4
     by true i e h = ltb-true (place / 2) (length page / 4) e
@@ -197,4 +202,4 @@ module _ (setting : Setting) (total : ℕ) (r : Record) (ram : List ℕ) (v : Ve
   accepted-run x h ran = ran ∙ decided accepted (ap decisionOf h)
 
   pub accepted-short : v ≡ Accepted → length (setting .program .page) ≤ 256
-  accepted-short h = fitting (setting .program .page) (accepted-all setting r ram (sym e ∙ ap decisionOf h) .0) .0
+  accepted-short h = fitting (setting .program .page) (program-accepted (setting .program) (accepted-all setting r ram (sym e ∙ ap decisionOf h) .0) .1) .0

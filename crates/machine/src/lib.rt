@@ -284,7 +284,7 @@ fn run_on(
     let mut r = start;
     let mut steps: u32 = 0;
     while steps < budget {
-        let i = place::stands_at(page, r.place);
+        let i = place::instruction_at(page, platform, r.place);
         if let Instruction::Data(operation) = i {
             let f = r.flags;
             let next = next_place(page, r.place);

@@ -79,11 +79,11 @@ module _ (bytes room : List ℕ) where
 -- ---- runs
 
 -- handed no record, a run is refused by its areas, or by 255
-pub no-record-code : (page external ram : List ℕ) (areas : Verdict) (code : ℕ)
-    → decisionOf areas ≡ decision (areaRules page external ram)
+pub no-record-code : (setting : Setting) (ram : List ℕ) (areas : Verdict) (code : ℕ)
+    → decisionOf areas ≡ decision (areaRules setting ram)
     → code ≡ codeOf (whenAccepted (decisionOf areas) (refused 255 []) (decisionOf areas))
-    → code ≡ codeOf (decision (noRecordRules page external ram))
-no-record-code page external ram areas code e h = h ∙ rw (in-turn (areaRules page external ram) _, e)
+    → code ≡ codeOf (decision (noRecordRules setting ram))
+no-record-code setting ram areas code e h = h ∙ rw (in-turn (areaRules setting ram) _, e)
 
 pub crosses : (setting : Setting) (bytes ram : List ℕ) (total : ℕ) (r : Record) (a : machine.Answer) (numbers : StopNumbers) (room after : List ℕ)
     → holdsRecord bytes ≡ true → r ≡ recordIn bytes → Gives setting total r ram a after → numbers ≡ stopNumbers (reasonOf (a .stop))

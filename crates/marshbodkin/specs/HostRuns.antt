@@ -29,15 +29,15 @@ crossing r = record { stop = stopNumbers (r .stop); steps = r .steps; bytes = re
 
 -- a number of the host's own, which no refusal has: the bytes hold no record. It stands directly before the first refusal that
 -- looks at the record
-abbrev pub noRecordRules : List ℕ → List ℕ → List ℕ → List Rule
-noRecordRules page external ram = areaRules page external ram ++ (rule true 255 [] ∷ [])
+abbrev pub noRecordRules : Setting → List ℕ → List Rule
+noRecordRules setting ram = areaRules setting ram ++ (rule true 255 [] ∷ [])
 
 -- the run of the record that the bytes hold; where they hold none, nothing changes
 abbrev pub hostRun : Setting → ℕ → List ℕ → List ℕ → Crossed
 hostRun setting total bytes ram =
     cond (holdsRecord bytes) (crossing (runOf setting total (recordIn bytes) ram))
     (record {
-      stop = refusedWith (codeOf (decision (noRecordRules (setting .program .page) (setting .external) ram)));
+      stop = refusedWith (codeOf (decision (noRecordRules setting ram)));
       steps = 0;
       bytes = bytes;
       ram = ram;

@@ -1,5 +1,6 @@
 // The calls that a host links, in C's way: one that can be refused answers 0, a refusal's number or 255, and the rest is given in lent
-// numbers and bytes. A record crosses as its 44 bytes, fit or not. Bit n of `never_return` says that direct syscall n never returns.
+// numbers and bytes. A record crosses as its 44 bytes, fit or not. Bit n of `never_return` says that direct syscall n never returns;
+// `profile` is 0, full, or 1, small; any other is refused.
 ghost use mathlib.Core.Path.{_≡_};
 ghost use lib.ListN.{length};
 ghost use Rattle.platform.specs.Platforms.{platformOf};
@@ -22,10 +23,14 @@ use refusal::Verdict;
 
 // The count of a program.
 #[no_mangle]
-pub extern "C" fn mb_raw_count(page: &[u8], never_return: u64, count: &mut u32) -> u32
-    ensures { λ code. ⌜ (code ≡ codeOf (countProgram (programOf (now (page .entry)) (platformOf «never_return»)) .decision)) × (now (count .exit) ≡ countProgram (programOf (now (page .entry)) (platformOf «never_return»)) .count) ⌝ }
+pub extern "C" fn mb_raw_count(page: &[u8], never_return: u64, profile: u32, count: &mut u32) -> u32
+    ensures { λ code. ⌜ (code ≡ codeOf (countProgram (programOf (now (page .entry)) (platformOf «never_return» profile)) .decision)) × (now (count .exit) ≡ countProgram (programOf (now (page .entry)) (platformOf «never_return» profile)) .count) ⌝ }
 {
-    let counted = count::count(page, Platform { never_return });
+    let platform = Platform {
+        never_return,
+        profile,
+    };
+    let counted = count::count(page, platform);
     let verdict = counted.verdict;
     *count = counted.count;
     crossing::code_of(verdict)
@@ -36,15 +41,20 @@ pub extern "C" fn mb_raw_count(page: &[u8], never_return: u64, count: &mut u32) 
 pub extern "C" fn mb_raw_read_bundle(
     page: &[u8],
     never_return: u64,
+    profile: u32,
     k: u32,
     kind: &mut u32,
     largest: &mut u32,
 ) -> u32
-    ensures { λ code. ⌜ (code ≡ codeOf (readBundle (programOf (now (page .entry)) (platformOf «never_return»)) k .decision))
-        × (now (kind .exit) ≡ largestKind (readBundle (programOf (now (page .entry)) (platformOf «never_return»)) k .reading))
-        × (now (largest .exit) ≡ largestNumber (readBundle (programOf (now (page .entry)) (platformOf «never_return»)) k .reading)) ⌝ }
+    ensures { λ code. ⌜ (code ≡ codeOf (readBundle (programOf (now (page .entry)) (platformOf «never_return» profile)) k .decision))
+        × (now (kind .exit) ≡ largestKind (readBundle (programOf (now (page .entry)) (platformOf «never_return» profile)) k .reading))
+        × (now (largest .exit) ≡ largestNumber (readBundle (programOf (now (page .entry)) (platformOf «never_return» profile)) k .reading)) ⌝ }
 {
-    let read = bundle::read_bundle(page, Platform { never_return }, k);
+    let platform = Platform {
+        never_return,
+        profile,
+    };
+    let read = bundle::read_bundle(page, platform, k);
     let verdict = read.verdict;
     let successor = read.largest;
     *kind = crossing::largest_kind(successor);
@@ -127,6 +137,7 @@ pub extern "C" fn mb_raw_load(stored: &[u8], bytes: &mut [u8]) -> u32
 pub extern "C" fn mb_raw_run(
     page: &[u8],
     never_return: u64,
+    profile: u32,
     ram: &mut [u8],
     external: &[u8],
     bytes: &mut [u8],
@@ -137,10 +148,15 @@ pub extern "C" fn mb_raw_run(
     steps: &mut u32,
 ) -> u32
     ensures { λ code. ⌜ answered code (now (kind .exit)) (now (value .exit)) (now (literal .exit)) (now (steps .exit)) (now (bytes .exit)) (now (ram .exit))
-        ≡ hostRun (settingOf (programOf (now (page .entry)) (platformOf «never_return»)) (now (external .entry))) budget (now (bytes .entry)) (now (ram .entry)) ⌝ }
+        ≡ hostRun (settingOf (programOf (now (page .entry)) (platformOf «never_return» profile)) (now (external .entry))) budget (now (bytes .entry)) (now (ram .entry)) ⌝ }
 {
+    let platform = Platform {
+        never_return,
+        profile,
+    };
     if !layout::holds_record(&bytes[..]) {
-        let code = crossing::no_record_code(admission::of_areas(page, &ram[..], external));
+        let areas = admission::of_areas(page, platform, &ram[..], external);
+        let code = crossing::no_record_code(areas);
         *kind = 5;
         *value = code;
         *literal = 0;
@@ -149,7 +165,7 @@ pub extern "C" fn mb_raw_run(
     }
     let answer = machine::run(
         page,
-        Platform { never_return },
+        platform,
         ram,
         external,
         layout::record_in(&bytes[..]),
@@ -171,6 +187,7 @@ pub extern "C" fn mb_raw_run(
 pub extern "C" fn mb_raw_step(
     page: &[u8],
     never_return: u64,
+    profile: u32,
     ram: &mut [u8],
     external: &[u8],
     bytes: &mut [u8],
@@ -180,11 +197,12 @@ pub extern "C" fn mb_raw_step(
     steps: &mut u32,
 ) -> u32
     ensures { λ code. ⌜ answered code (now (kind .exit)) (now (value .exit)) (now (literal .exit)) (now (steps .exit)) (now (bytes .exit)) (now (ram .exit))
-        ≡ hostRun (settingOf (programOf (now (page .entry)) (platformOf «never_return»)) (now (external .entry))) 1 (now (bytes .entry)) (now (ram .entry)) ⌝ }
+        ≡ hostRun (settingOf (programOf (now (page .entry)) (platformOf «never_return» profile)) (now (external .entry))) 1 (now (bytes .entry)) (now (ram .entry)) ⌝ }
 {
     mb_raw_run(
         page,
         never_return,
+        profile,
         ram,
         external,
         bytes,
@@ -222,7 +240,7 @@ pub extern "C" fn mb_raw_exit(
 
 const MAJOR: u32 = 0;
 
-const MINOR: u32 = 3;
+const MINOR: u32 = 4;
 
 const PATCH: u32 = 0;
 

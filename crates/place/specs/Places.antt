@@ -4,8 +4,9 @@ use mathlib.Core.Bool.{Bool, not, _&&_, _||_, cond}
 use mathlib.Core.List.{List}
 use lib.Dec.{eqb, ltb}
 use Rattle.page.specs.Page.{bundlesIn, firstOf, secondOf}
-use Rattle.platform.specs.Programs.{Program}
-use Rattle.isa.specs.ListedEncodings.{opens32, decode16Of, decode32Of}
+use Rattle.platform.specs.Programs.{Program, encodingsIn, decode16In}
+use Rattle.isa.specs.ListedEncodings.{opens32}
+use Rattle.isa.specs.Profiles.{Encodings, decode16By, decode32By}
 use Rattle.isa.specs.declared.Instruction.{Instruction}
 use Rattle.isa.specs.declared.Instruction.the-variants.{Unlisted}
 use Rattle.bundle.specs.Flow.{terminator}
@@ -15,18 +16,19 @@ use Rattle.count.specs.Count.{countProgram}
 abbrev pub isEven : ℕ → Bool
 isEven place = eqb (place % 2) 0
 
--- of a bundle's halfwords: a 32-bit instruction stands in the first half alone, and nothing in the second half of one
-unfoldable pub standsIn : Bool → ℕ → ℕ → Instruction
-standsIn even first second = cond (opens32 first) (cond even (decode32Of first second) Unlisted) (decode16Of (cond even first second))
+-- of a bundle's halfwords, by a set of listed encodings: a 32-bit instruction stands in the first half alone, and nothing in the
+-- second half of one
+unfoldable pub standsIn : Encodings → Bool → ℕ → ℕ → Instruction
+standsIn encodings even first second =
+    cond (opens32 first) (cond even (decode32By encodings first second) Unlisted) (decode16By encodings (cond even first second))
 
--- at a place of a page; past the page nothing stands
-unfoldable pub standsAt : List ℕ → ℕ → Instruction
-standsAt page place =
-    cond (ltb (place / 2) (bundlesIn page)) (standsIn (isEven place) (firstOf page (place / 2)) (secondOf page (place / 2))) Unlisted
-
--- the instruction at a place of a program
-abbrev pub instructionAt : Program → ℕ → Instruction
-instructionAt program place = standsAt (program .page) place
+-- at a place; past the page nothing stands
+unfoldable pub instructionAt : Program → ℕ → Instruction
+instructionAt program place =
+    let page = program .page in
+    cond (ltb (place / 2) (bundlesIn page))
+    (standsIn (encodingsIn program) (isEven place) (firstOf page (place / 2)) (secondOf page (place / 2)))
+    Unlisted
 
 -- the place behind an instruction of 32 or 16 bits
 unfoldable pub following : List ℕ → ℕ → ℕ
@@ -36,7 +38,7 @@ following page place = place + cond (opens32 (firstOf page (place / 2))) 2 1
 
 -- of a bundle's halfwords: two 16-bit instructions whose first is no terminator
 unfoldable pub secondFits : Program → ℕ → ℕ → Bool
-secondFits program first second = not (opens32 first) && not (opens32 second) && not (terminator program (decode16Of first))
+secondFits program first second = not (opens32 first) && not (opens32 second) && not (terminator program (decode16In program first))
 
 -- the build paper's fit place: its bundle lies below the count; an odd place also needs such a bundle
 unfoldable pub fitPlace : Program → ℕ → Bool

@@ -1,34 +1,35 @@
 // What stands at a place, and whether the place is fit.
 ghost use mathlib.Core.Path.{_≡_};
+ghost use Rattle.platform.specs.Platforms.{encodingsOn};
 ghost use Rattle.platform.specs.Programs.{programOf};
-ghost use Rattle.place.specs.Places.{standsIn, standsAt, following, secondFits, fitPlace};
+ghost use Rattle.place.specs.Places.{standsIn, instructionAt, following, secondFits, fitPlace};
 use isa::Instruction;
 use platform::Platform;
 
 // Of a bundle's halfwords.
-fn stands_in(even: bool, first: u16, second: u16) -> Instruction
-    ensures { λ i. ⌜ i ≡ standsIn even first second ⌝ }
+fn stands_in(platform: Platform, even: bool, first: u16, second: u16) -> Instruction
+    ensures { λ i. ⌜ i ≡ standsIn (encodingsOn platform) even first second ⌝ }
 {
     if isa::opens_32(first) {
         if even {
-            return isa32::decode32(first, second);
+            return profile::decode32(platform, first, second);
         }
         return Instruction::Unlisted;
     }
     if even {
-        isa16::decode16(first)
+        profile::decode16(platform, first)
     } else {
-        isa16::decode16(second)
+        profile::decode16(platform, second)
     }
 }
 
-pub fn stands_at(page: &[u8], place: u16) -> Instruction
-    ensures { λ i. ⌜ i ≡ standsAt (now (page .entry)) place ⌝ }
+pub fn instruction_at(page: &[u8], platform: Platform, place: u16) -> Instruction
+    ensures { λ i. ⌜ i ≡ instructionAt (programOf (now (page .entry)) platform) place ⌝ }
 {
     let k = (place / 2) as u32;
     if (k as usize) < page.len() / 4 {
         let h = page::halves_of(page, k);
-        stands_in(place % 2 == 0, h.first, h.second)
+        stands_in(platform, place % 2 == 0, h.first, h.second)
     } else {
         Instruction::Unlisted
     }
@@ -57,7 +58,7 @@ fn second_fits(page: &[u8], platform: Platform, leading: u16, second: u16) -> bo
     if isa::opens_32(second) {
         return false;
     }
-    !bundle::is_terminator(page, platform, isa16::decode16(leading))
+    !bundle::is_terminator(page, platform, profile::decode16(platform, leading))
 }
 
 pub fn is_fit(page: &[u8], platform: Platform, place: u16) -> bool

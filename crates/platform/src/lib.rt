@@ -1,14 +1,20 @@
-// What a host says of its machine.
+// What a host says of its machine, and what of a program is refused.
 ghost use mathlib.Core.Path.{_≡_};
+ghost use Rattle.refusal.specs.Refusals.{decision, decisionOf};
 ghost use Rattle.platform.specs.Platforms.{neverReturns, defaultPlatform};
+ghost use Rattle.platform.specs.Programs.{programOf, programRules};
+use refusal::Refusal;
+use refusal::Verdict;
 
 pub struct Platform {
     // bit n: direct syscall n never returns
     pub never_return: u64,
+    // 0 full, 1 small
+    pub profile: u32,
 }
 
 pub fn never_returns(platform: Platform, n: u8) -> bool
-    ensures { λ t. ⌜ t ≡ neverReturns platform n ⌝ }
+    ensures { λ t. ⌜ t ≡ neverReturns (platform .«never_return») n ⌝ }
 {
     if n >= 64 {
         return false;
@@ -16,9 +22,27 @@ pub fn never_returns(platform: Platform, n: u8) -> bool
     (platform.never_return >> n) & 1 == 1
 }
 
-// What the programs give: every direct syscall returns.
+// What the programs give: every direct syscall returns, and the profile is the full one.
 pub fn default_platform() -> Platform
     ensures { λ p. ⌜ p ≡ defaultPlatform ⌝ }
 {
-    Platform { never_return: 0 }
+    Platform {
+        never_return: 0,
+        profile: 0,
+    }
+}
+
+// The profile is known, and the page has an allowed length.
+pub fn of_program(page: &[u8], platform: Platform) -> Verdict
+    ensures { λ v. ⌜ decisionOf v ≡ decision (programRules (programOf (now (page .entry)) platform)) ⌝ }
+{
+    let known = platform.profile < 2;
+    let fits = page::fits(page);
+    if !known {
+        return Verdict::Refused(Refusal::UnknownProfile);
+    }
+    if !fits {
+        return Verdict::Refused(Refusal::PageLength);
+    }
+    Verdict::Accepted
 }

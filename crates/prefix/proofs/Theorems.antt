@@ -1,4 +1,5 @@
--- There is one greatest closed prefix, and the definition, the single pass and the iterated form all give it.
+-- There is one greatest closed prefix, and the definition, the single pass and the iterated form all give it; where fewer bundles are
+-- bad it is no smaller.
 use Prim.Native.Nat.{ℕ, zero, suc, _+_, _-_, _≤_, _<_, max, zero-le}
 use native.Mathlib.Nat.{le-refl, le-antisymm, eq-or-lt-of-le, le-of-suc-le-suc, not-suc-le-zero}
 use native.Mathlib.Numerals.{sub-one}
@@ -10,7 +11,7 @@ use mathlib.Core.Logic.{_⊎_, inl, inr, ⊎-elim}
 use lib.Dec.{ltb}
 use borrow.Author.Tests.{ltb-true, ltb-false, lt-ltb, le-ltb}
 use Rattle.laws.proofs.Tests.{both}
-use Rattle.prefix.specs.Prefix.{Successors, bad, goes, AllBelow, Within, Closed, Greatest, allBelow, within, allWithin, greatestClosed, scanBack, singlePass, firstOutside, passes, iterated}
+use Rattle.prefix.specs.Prefix.{Successors, bad, goes, AllBelow, Within, Closed, Greatest, SameUnlessBad, allBelow, within, allWithin, greatestClosed, scanBack, singlePass, firstOutside, passes, iterated}
 use Rattle.prefix.specs.LargestSuccessor.{largestOf}
 
 -- ---- the test `within` tells `Within`
@@ -199,3 +200,18 @@ module _ (successors other : ℕ → Successors) where
   unfolding greatestClosed
   closed-extent zero same = refl
   closed-extent (suc n) same = rw (all-extent (suc n) (suc n) same, closed-extent n (λ k l. same k (omega arith)))
+
+-- ---- where fewer bundles are bad, the count is no smaller
+
+module _ (stricter looser : ℕ → Successors) (same : SameUnlessBad stricter looser) where
+  within-looser : (m k : ℕ) → Within m (stricter k) → Within m (looser k)
+  within-looser m k h = ⊎-elim (λ e. absurd (rw e at h)) (λ e. rw e at h) (same k)
+
+  -- a prefix closed by the one is closed by the other
+  closed-looser : (m : ℕ) → Closed stricter m → Closed looser m
+  closed-looser m c k l = within-looser m k (c k l)
+
+  pub count-looser : (n : ℕ) → greatestClosed stricter n ≤ greatestClosed looser n
+  count-looser n =
+      let s = definition stricter n in
+      definition looser n .greatest (greatestClosed stricter n) (s .inside) (closed-looser (greatestClosed stricter n) (s .closed))

@@ -2,6 +2,8 @@
 use Prim.Native.Nat.{ℕ, zero, suc, _≤_, _<_}
 use mathlib.Core.Bool.{Bool, true, false, _&&_, cond}
 use mathlib.Core.List.{List, [], _∷_}
+use mathlib.Core.Logic.{_⊎_}
+use mathlib.Core.Path.{_≡_}
 use lib.Dec.{ltb}
 
 -- a bundle is bad, or goes to its successors
@@ -27,6 +29,10 @@ pub record Greatest (successors : ℕ → Successors) (bundles m : ℕ) : Type 0
   pub inside : m ≤ bundles
   pub closed : Closed successors m
   pub greatest : (n : ℕ) → n ≤ bundles → Closed successors n → n ≤ m
+
+-- a bundle that isn't bad under the stricter function has the same successors under the looser
+abbrev pub SameUnlessBad : (ℕ → Successors) → (ℕ → Successors) → Type 0
+SameUnlessBad stricter looser = (k : ℕ) → (stricter k ≡ bad) ⊎ (stricter k ≡ looser k)
 
 -- ---- the same, computed
 

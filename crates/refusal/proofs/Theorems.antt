@@ -16,3 +16,7 @@ pub in-turn : (xs ys : List Rule) → decision (xs ++ ys) ≡ whenAccepted (deci
 in-turn [] ys = refl
 in-turn (rule true n values ∷ xs) ys = refl
 in-turn (rule false n values ∷ xs) ys = in-turn xs ys
+
+-- the same, where what the first ones say is known
+pub after : (xs ys : List Rule) (d : Decision) → d ≡ decision xs → decision (xs ++ ys) ≡ whenAccepted d (decision ys) d
+after xs ys d e = rw e (in-turn xs ys)

@@ -3,11 +3,11 @@ use Prim.Native.Nat.{ℕ}
 use mathlib.Core.Bool.{Bool, cond}
 use mathlib.Core.List.{List, [], _∷_}
 use Rattle.refusal.specs.declared.Refusal.{Refusal}
-use Rattle.refusal.specs.declared.Refusal.the-variants.{PageLength, RamLength, ExternalLength, UnfitRecord, UnfitPlace, FormLength, FormRange, NoSuchBundle}
+use Rattle.refusal.specs.declared.Refusal.the-variants.{PageLength, RamLength, ExternalLength, UnfitRecord, UnfitPlace, FormLength, FormRange, NoSuchBundle, UnknownProfile}
 use Rattle.refusal.specs.declared.Verdict.{Verdict}
 use Rattle.refusal.specs.declared.Verdict.the-variants.{Accepted, Refused}
 
--- what a call is told: accepted, or refused with the build paper's number and the values that it carries
+-- what a call is told: accepted, or refused with the papers' number and the values that it carries
 pub data Decision : Type 0 where
   accepted : Decision
   refused : ℕ → List ℕ → Decision
@@ -38,6 +38,7 @@ refusalNumber UnfitPlace = 5
 refusalNumber FormLength = 6
 refusalNumber FormRange = 7
 refusalNumber NoSuchBundle = 8
+refusalNumber UnknownProfile = 18
 
 -- none of them carries a value
 abbrev pub refusalValues : Refusal → List ℕ

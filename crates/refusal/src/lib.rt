@@ -2,7 +2,7 @@
 ghost use mathlib.Core.Path.{_≡_};
 ghost use Rattle.refusal.specs.Refusals.{refusalNumber};
 
-// The build paper's refusals, in the order of their numbers, 1 to 8.
+// The papers' refusals, in the order of their numbers.
 pub enum Refusal {
     PageLength,
     RamLength,
@@ -12,6 +12,7 @@ pub enum Refusal {
     FormLength,
     FormRange,
     NoSuchBundle,
+    UnknownProfile,
 }
 
 // A call's answer to what it was handed.
@@ -20,7 +21,7 @@ pub enum Verdict {
     Refused(Refusal),
 }
 
-// The build paper's number of a refusal.
+// The papers' number of a refusal.
 pub fn number(r: Refusal) -> u8
     ensures { λ n. ⌜ n ≡ refusalNumber r ⌝ }
 {
@@ -33,5 +34,6 @@ pub fn number(r: Refusal) -> u8
         Refusal::FormLength => 6,
         Refusal::FormRange => 7,
         Refusal::NoSuchBundle => 8,
+        Refusal::UnknownProfile => 18,
     }
 }

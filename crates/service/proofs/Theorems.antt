@@ -1,4 +1,4 @@
--- Where the literal word counts: for low bytes 01 to 7F, and nowhere else. What a platform changes of endings.
+-- Where the literal word counts: for low bytes 01 to 7F, and nowhere else. What a set of syscalls that never return changes of endings.
 use Prim.Native.Nat.{ℕ, _<_}
 use mathlib.Core.Bool.{Bool, true, false, cond, true≢false, and-false}
 use mathlib.Core.Logic.{_⊎_, inl, inr, ⊎-elim}
@@ -7,7 +7,6 @@ use lib.Dec.{leb}
 use borrow.Author.Tests.{le-leb, lt-leb, leb-true, leb-false}
 use Rattle.laws.proofs.Tests.{both}
 use Rattle.platform.specs.Platforms.{neverReturns}
-use Rattle.platform.specs.declared.Platform.{Platform}
 use Rattle.service.specs.Services.{takesLiteral, byLowByte, endingOf, lastSyscall, endingOn}
 use Rattle.service.specs.declared.Ending.the-variants.{Exit, LastExit}
 use Rattle.service.specs.declared.Service.{Service}
@@ -32,32 +31,31 @@ below n h = rw (lt-leb 0x01 n h)
 pub above : (n : ℕ) → leb n 0x7F ≡ false → takesLiteral n ≡ false
 above n h = rw h (and-false (leb 0x01 n))
 
--- ---- on a platform
+-- ---- with a set
 
--- no service but a direct syscall is looked up in its set
-pub only-direct : (s : Service) → ((n : ℕ) × (s ≡ DirectSyscall n)) ⊎ ((platform : Platform) → lastSyscall platform s ≡ false)
-only-direct Return = inr (λ platform. refl)
-only-direct (Call a n) = inr (λ platform. refl)
-only-direct (TailCall a n) = inr (λ platform. refl)
-only-direct (Syscall n i) = inr (λ platform. refl)
-only-direct (TailSyscall n i) = inr (λ platform. refl)
-only-direct (LongBranch a) = inr (λ platform. refl)
-only-direct Preload = inr (λ platform. refl)
-only-direct (SetBase a) = inr (λ platform. refl)
-only-direct (StoreAtSp t a) = inr (λ platform. refl)
-only-direct (LoadAtSp t a) = inr (λ platform. refl)
-only-direct (LowerSp a) = inr (λ platform. refl)
+-- no service but a direct syscall is looked up in it
+pub only-direct : (s : Service) → ((n : ℕ) × (s ≡ DirectSyscall n)) ⊎ ((set : ℕ) → lastSyscall set s ≡ false)
+only-direct Return = inr (λ set. refl)
+only-direct (Call a n) = inr (λ set. refl)
+only-direct (TailCall a n) = inr (λ set. refl)
+only-direct (Syscall n i) = inr (λ set. refl)
+only-direct (TailSyscall n i) = inr (λ set. refl)
+only-direct (LongBranch a) = inr (λ set. refl)
+only-direct Preload = inr (λ set. refl)
+only-direct (SetBase a) = inr (λ set. refl)
+only-direct (StoreAtSp t a) = inr (λ set. refl)
+only-direct (LoadAtSp t a) = inr (λ set. refl)
+only-direct (LowerSp a) = inr (λ set. refl)
 only-direct (DirectSyscall n) = inl (n, refl)
-only-direct (Validate n) = inr (λ platform. refl)
-only-direct Breakpoint = inr (λ platform. refl)
-only-direct (CallRegister n) = inr (λ platform. refl)
-only-direct (TailCallRegister n) = inr (λ platform. refl)
-only-direct Bad = inr (λ platform. refl)
+only-direct (Validate n) = inr (λ set. refl)
+only-direct Breakpoint = inr (λ set. refl)
+only-direct (CallRegister n) = inr (λ set. refl)
+only-direct (TailCallRegister n) = inr (λ set. refl)
+only-direct Bad = inr (λ set. refl)
 
 -- it makes terminators of exits, and changes nothing else
-pub on-platform : (platform : Platform) (s : Service)
-    → (endingOn platform s ≡ endingOf s) ⊎ ((endingOf s ≡ Exit) × (endingOn platform s ≡ LastExit))
-on-platform platform s = ⊎-elim (λ d. rw (d .1) (go (neverReturns platform (d .0)))) (λ h. inl (rw (h platform))) (only-direct s)
+pub set-changes : (set : ℕ) (s : Service) → (endingOn set s ≡ endingOf s) ⊎ ((endingOf s ≡ Exit) × (endingOn set s ≡ LastExit))
+set-changes set s = ⊎-elim (λ d. rw (d .1) (go (neverReturns set (d .0)))) (λ h. inl (rw (h set))) (only-direct s)
   where
     go : (last : Bool) → (cond last LastExit Exit ≡ Exit) ⊎ ((Exit ≡ Exit) × (cond last LastExit Exit ≡ LastExit))
     go true = inr (refl, refl)

@@ -8,7 +8,6 @@ use Rattle.bits.specs.Fields.{bits, bit}
 use Rattle.page.specs.Page.{bundlesIn, wordAt}
 use Rattle.platform.specs.Platforms.{neverReturns}
 use Rattle.platform.specs.Programs.{Program}
-use Rattle.platform.specs.declared.Platform.{Platform}
 use Rattle.service.specs.declared.Ending.{Ending}
 use Rattle.service.specs.declared.Ending.the-variants.{GoesOn, Exit, LastExit}
 use Rattle.service.specs.declared.Ending.the-variants as ending
@@ -108,30 +107,30 @@ endingOf Bad = ending.Bad
 
 -- ---- in a program
 
--- a direct syscall that the host says never returns, and no other service
-abbrev pub lastSyscall : Platform → Service → Bool
-lastSyscall platform Return = false
-lastSyscall platform (Call a n) = false
-lastSyscall platform (TailCall a n) = false
-lastSyscall platform (Syscall n i) = false
-lastSyscall platform (TailSyscall n i) = false
-lastSyscall platform (LongBranch a) = false
-lastSyscall platform Preload = false
-lastSyscall platform (SetBase a) = false
-lastSyscall platform (StoreAtSp t a) = false
-lastSyscall platform (LoadAtSp t a) = false
-lastSyscall platform (LowerSp a) = false
-lastSyscall platform (DirectSyscall n) = neverReturns platform n
-lastSyscall platform (Validate n) = false
-lastSyscall platform Breakpoint = false
-lastSyscall platform (CallRegister n) = false
-lastSyscall platform (TailCallRegister n) = false
-lastSyscall platform Bad = false
+-- a direct syscall of the set of those that never return, and no other service
+abbrev pub lastSyscall : ℕ → Service → Bool
+lastSyscall set Return = false
+lastSyscall set (Call a n) = false
+lastSyscall set (TailCall a n) = false
+lastSyscall set (Syscall n i) = false
+lastSyscall set (TailSyscall n i) = false
+lastSyscall set (LongBranch a) = false
+lastSyscall set Preload = false
+lastSyscall set (SetBase a) = false
+lastSyscall set (StoreAtSp t a) = false
+lastSyscall set (LoadAtSp t a) = false
+lastSyscall set (LowerSp a) = false
+lastSyscall set (DirectSyscall n) = neverReturns set n
+lastSyscall set (Validate n) = false
+lastSyscall set Breakpoint = false
+lastSyscall set (CallRegister n) = false
+lastSyscall set (TailCallRegister n) = false
+lastSyscall set Bad = false
 
 -- over the table above, such a syscall is a terminator, and an exit as before
-abbrev pub endingOn : Platform → Service → Ending
-endingOn platform s = cond (lastSyscall platform s) LastExit (endingOf s)
+abbrev pub endingOn : ℕ → Service → Ending
+endingOn set s = cond (lastSyscall set s) LastExit (endingOf s)
 
 -- of the service with a low byte
 abbrev pub endingIn : Program → ℕ → Ending
-endingIn program n = endingOn (program .platform) (serviceOf (program .page) n)
+endingIn program n = endingOn (program .neverReturn) (serviceOf (program .page) n)

@@ -198,7 +198,7 @@ pub fn service_of(page: &[u8], n: u8) -> Service
 
 // A direct syscall that never returns.
 fn is_last_syscall(platform: Platform, s: Service) -> bool
-    ensures { λ t. ⌜ t ≡ lastSyscall platform s ⌝ }
+    ensures { λ t. ⌜ t ≡ lastSyscall (platform .«never_return») s ⌝ }
 {
     match s {
         Service::Return => false,
@@ -223,7 +223,7 @@ fn is_last_syscall(platform: Platform, s: Service) -> bool
 
 // The same on a platform.
 pub fn ending_on(platform: Platform, s: Service) -> Ending
-    ensures { λ r. ⌜ r ≡ endingOn platform s ⌝ }
+    ensures { λ r. ⌜ r ≡ endingOn (platform .«never_return») s ⌝ }
 {
     if is_last_syscall(platform, s) {
         Ending::LastExit

@@ -183,7 +183,7 @@ fn run_lines(input: &[u8]) {
 // ---- refusals of what a line does not say
 
 // By the lengths of page, RAM and external data. The page starts as 2001 DF00, and all else is 0.
-fn run_lengths(r: Record, page: usize, ram: usize, external: usize)
+fn run_lengths(platform: Platform, r: Record, page: usize, ram: usize, external: usize)
     requires { ⌜ (page ≤ 260) × (ram ≤ 32769) × (external ≤ 257) ⌝ }
 {
     let mut page_bytes = [0u8; 260];
@@ -194,7 +194,7 @@ fn run_lengths(r: Record, page: usize, ram: usize, external: usize)
     let external_bytes = [0u8; 257];
     run_bytes(
         &page_bytes[..page],
-        platform::default_platform(),
+        platform,
         &mut ram_bytes[..ram],
         &external_bytes[..external],
         r,
@@ -204,11 +204,17 @@ fn run_lengths(r: Record, page: usize, ram: usize, external: usize)
 
 // Record and place are not fit either, and each call has one thing less that is refused. Lines of the input go on from here.
 fn refusal_order() {
-    show_line(b"# order as numbered: 1, 2 and 3 before the rest");
+    show_line(b"# order: 18, then as numbered: 1, 2 and 3 before the rest");
     let unfit = state::set_place(state::set_sp(state::fresh_record(), 0x17FFE), 2);
-    run_lengths(unfit, 2, 32767, 1);
-    run_lengths(unfit, 4, 32767, 1);
-    run_lengths(unfit, 4, 32768, 1);
+    let full = platform::default_platform();
+    let unknown = Platform {
+        never_return: 0,
+        profile: 2,
+    };
+    run_lengths(unknown, unfit, 2, 32767, 1);
+    run_lengths(full, unfit, 2, 32767, 1);
+    run_lengths(full, unfit, 4, 32767, 1);
+    run_lengths(full, unfit, 4, 32768, 1);
 }
 
 // Each alone.
@@ -217,12 +223,13 @@ fn refused_lengths() {
         b"# lengths: 3 and 260 of a page, 32,767 and 32,769 of RAM, 255 and 257 of external data",
     );
     let fresh = state::fresh_record();
-    run_lengths(fresh, 3, 32768, 0);
-    run_lengths(fresh, 260, 32768, 0);
-    run_lengths(fresh, 4, 32767, 0);
-    run_lengths(fresh, 4, 32769, 0);
-    run_lengths(fresh, 4, 32768, 255);
-    run_lengths(fresh, 4, 32768, 257);
+    let full = platform::default_platform();
+    run_lengths(full, fresh, 3, 32768, 0);
+    run_lengths(full, fresh, 260, 32768, 0);
+    run_lengths(full, fresh, 4, 32767, 0);
+    run_lengths(full, fresh, 4, 32769, 0);
+    run_lengths(full, fresh, 4, 32768, 255);
+    run_lengths(full, fresh, 4, 32768, 257);
 }
 
 fn run_base(base: Base) {
@@ -298,13 +305,16 @@ fn two_steps() {
     run(line, &mut ram, b"", after, 100);
 }
 
-// ---- syscalls that never return
+// ---- platforms
 
-fn run_set(line: &[u8], never_return: u64) {
+fn run_on(line: &[u8], never_return: u64, profile: u32) {
     let mut ram = [0u8; 32768];
     run_with(
         line,
-        Platform { never_return },
+        Platform {
+            never_return,
+            profile,
+        },
         &mut ram,
         b"",
         record_of(line),
@@ -315,8 +325,8 @@ fn run_set(line: &[u8], never_return: u64) {
 // With the set empty, and with that bit alone.
 fn run_both(line: &[u8], bit: u64) {
     show_line(line);
-    run_set(line, 0);
-    run_set(line, bit);
+    run_on(line, 0, 0);
+    run_on(line, bit, 0);
 }
 
 fn last_syscalls() {
@@ -333,6 +343,21 @@ fn last_syscalls() {
     run_both(b"00000000 00000000 18000 0001 0 00000009 DF80 DF00", 1);
 }
 
+// In the full profile, in the small one, and in one that there isn't.
+fn run_profiles(line: &[u8]) {
+    show_line(line);
+    run_on(line, 0, 0);
+    run_on(line, 0, 1);
+    run_on(line, 0, 2);
+}
+
+fn profiles() {
+    show_line(b"# profiles 0, 1 and 2: cbnz, movw, neither");
+    run_profiles(b"00000000 00000000 18000 0000 0 00000009 B900 DF00, 2001 DF00");
+    run_profiles(b"00000000 00000000 18000 0000 0 00000009 F241 2034, 2834 DF00");
+    run_profiles(b"00000000 00000000 18000 0000 0 00000009 2800 D001, 2001 DF00, 2000 DF00");
+}
+
 fn main() {
     let mut input = [0u8; 16384];
     let Input::Bytes(n) = streams::read_input(&PROGRAM, &mut input) else {
@@ -345,4 +370,5 @@ fn main() {
     two_runs();
     two_steps();
     last_syscalls();
+    profiles();
 }

@@ -2,15 +2,14 @@
 use Prim.Native.Nat.{ℕ}
 use mathlib.Core.List.{List, []}
 use lib.ListN.{replicate}
-use Rattle.platform.specs.Platforms.{defaultPlatform}
-use Rattle.platform.specs.Programs.{programOf, settingOf}
+use Rattle.platform.specs.Programs.{defaultProgram, settingOf}
 use Rattle.state.specs.Record.{freshRecord}
 use Rattle.plain.specs.PlainMachine.{Result}
 use Rattle.machine.specs.Runs.{runOf}
 use Rattle.transcript.specs.Transcript.{transcriptOf}
 
 abbrev pub trialRun : List ℕ → Result
-trialRun page = runOf (settingOf (programOf page defaultPlatform) []) 100000 freshRecord (replicate 32768 0)
+trialRun page = runOf (settingOf (defaultProgram page) []) 100000 freshRecord (replicate 32768 0)
 
 -- what it prints
 unfoldable pub trialOf : List ℕ → List ℕ

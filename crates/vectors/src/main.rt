@@ -75,7 +75,13 @@ fn page_refusals() {
 
 // The count of a page, where the syscalls of a set never return.
 fn count(page: &[u8], never_return: u64) {
-    let counted = count::count(page, Platform { never_return });
+    let counted = count::count(
+        page,
+        Platform {
+            never_return,
+            profile: 0,
+        },
+    );
     show(b"never return ");
     show_hex(never_return, 16);
     show(b" count");
@@ -91,6 +97,48 @@ fn sets() {
     // BF00 DFBF
     count(b"\x00\xBF\xBF\xDF", 0x8000_0000_0000_0000);
     count(b"\x00\xBF\xBF\xDF", 0x7FFF_FFFF_FFFF_FFFF);
+}
+
+// ---- profiles
+
+// The count of a page under a profile.
+fn count_under(page: &[u8], profile: u32) {
+    let counted = count::count(
+        page,
+        Platform {
+            never_return: 0,
+            profile,
+        },
+    );
+    let verdict = counted.verdict;
+    show(b"profile");
+    show_number(profile as u64);
+    show(b" count");
+    show_number(counted.count as u64);
+    show(b"\n");
+    show_verdict(verdict);
+}
+
+// The full one and the small one.
+fn count_twice(page: &[u8]) {
+    count_under(page, 0);
+    count_under(page, 1);
+}
+
+fn profiles() {
+    // F240 0000, 2001 DF00
+    count_twice(b"\x40\xF2\x00\x00\x01\x20\x00\xDF");
+    // B100 DF00, 2001 DF00 and B900 DF00, 2001 DF00
+    count_twice(b"\x00\xB1\x00\xDF\x01\x20\x00\xDF");
+    count_twice(b"\x00\xB9\x00\xDF\x01\x20\x00\xDF");
+    // DF00 B900
+    count_twice(b"\x00\xDF\x00\xB9");
+    // 2001 DF00
+    count_twice(b"\x01\x20\x00\xDF");
+    // unknown ones, and one before a length
+    count_under(b"\x01\x20\x00\xDF", 2);
+    count_under(b"\x01\x20\x00\xDF", 0xFFFF_FFFF);
+    count_under(b"\x00\xBF\x00", 255);
 }
 
 // ---- base validation
@@ -231,6 +279,7 @@ fn main() {
     pages();
     page_refusals();
     sets();
+    profiles();
     bases();
     ram_edges();
     external_edges();

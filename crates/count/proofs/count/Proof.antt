@@ -1,10 +1,12 @@
-use mathlib.Core.Path.{_≡_, sym, _∙_}
+use mathlib.Core.Path.{_≡_, sym, ap, _∙_}
 use Prim.Native.Nat.{_-_, _≤_}
 use native.Mathlib.Omega.{arith}
-use borrow.Author.Tests.{not-true, not-false}
+use borrow.Author.Needs.{needs}
+use Rattle.refusal.specs.Refusals.{decisionOf}
 use Rattle.page.specs.Page.{bundlesIn}
 use Rattle.page.proofs.Theorems.{fitting}
 use Rattle.platform.specs.Programs.{programOf}
+use Rattle.platform.proofs.Theorems.{program-accepted}
 use Rattle.prefix.specs.Prefix.{scanBack}
 use Rattle.prefix.proofs.Theorems.{single-pass-is, scan-turn, scan-end}
 use Rattle.bundle.specs.Successors.{successorsOf}
@@ -20,17 +22,29 @@ Inv-loop page platform k₀ bound₀ k bound =
 abbrev μ-loop : tie.MeasureT-loop
 μ-loop page platform k₀ bound₀ k bound = k
 
-fits-requires : tie.Need-fits-requires Inv-loop μ-loop
-fits-requires c κs = tt
+of-program-requires : tie.Need-of-program-requires Inv-loop μ-loop
+of-program-requires c κs = tt
+
+enum-known-why : tie.Need-enum-known-why Inv-loop μ-loop
+enum-known-why c = search needs
 
 returns : tie.Need-returns Inv-loop μ-loop
-returns c = rw (sym (c .before .fits2 .ensures) ∙ not-true _ (c .if1 .taken))
+returns c = rw (← c .before .before .before .of-program .ensures, c .before .why .given .1)
+
+enum-told : tie.Need-enum-told Inv-loop μ-loop
+enum-told c = search needs
 
 cast-k : tie.Need-cast-k Inv-loop μ-loop
-cast-k c = let f = fitting (c .before .before .before .args .page .now) (sym (c .before .fits2 .ensures) ∙ not-false _ (c .if1 .left)) in record { fits = omega arith }
+cast-k c =
+    let s = c .before .before .before .before .args in
+    let a = program-accepted (programOf (s .page .now) (s .platform)) (sym (c .before .before .of-program .ensures) ∙ ap decisionOf (c .enum-told .given .1)) in
+    let f = fitting (s .page .now) (a .1) in
+    record { fits = omega arith }
 
 loop-holds : tie.Need-loop-holds Inv-loop μ-loop
-loop-holds c = (omega arith, single-pass-is (successorsOf (programOf (c .before .before .before .args .page .now) (c .before .before .before .args .platform))) (bundlesIn (c .before .before .before .args .page .now)))
+loop-holds c =
+    let s = c .before .before .before .before .args in
+    (omega arith, single-pass-is (successorsOf (programOf (s .page .now) (s .platform))) (bundlesIn (s .page .now)))
 
 sub-k : tie.Need-sub-k Inv-loop μ-loop
 sub-k c = omega arith
@@ -46,20 +60,22 @@ loop-less c = omega arith
 
 loop-again : tie.Need-loop-again Inv-loop μ-loop
 loop-again c =
-    let program = programOf (c .before .before .before .before .before .before .before .args .page .now) (c .before .before .before .before .before .before .before .args .platform) in
+    let s = c .before .before .before .before .before .before .before .before .args in
+    let program = programOf (s .page .now) (s .platform) in
     let k = c .before .before .before .loop .k in
     let bound = c .before .before .before .loop .bound in (
       omega arith,
       scan-turn (successorsOf program) k bound _ (countOf program) (omega arith)
-          (turn program (k - 1) bound _ (c .before .read-bundle .result) (sym (c .before .before .before .before .before .fits2 .ensures) ∙ not-false _ (c .before .before .before .before .if1 .left)) (omega arith) (c .before .read-bundle .ensures) (c .bound-after .ensures))
+          (turn program (k - 1) bound _ (c .before .read-bundle .result) (sym (c .before .before .before .before .before .before .of-program .ensures) ∙ ap decisionOf (c .before .before .before .before .enum-told .given .1)) (omega arith) (c .before .read-bundle .ensures) (c .bound-after .ensures))
           (c .before .before .before .loop .inv .1),
     )
 
 returns-2 : tie.Need-returns-2 Inv-loop μ-loop
 returns-2 c =
-    let program = programOf (c .before .before .before .before .before .args .page .now) (c .before .before .before .before .before .args .platform) in
-    rw (sym (c .before .before .before .fits2 .ensures) ∙ not-false _ (c .before .before .if1 .left), scan-end (successorsOf program) (c .before .loop .k) (c .before .loop .bound) (countOf program) (omega arith) (c .before .loop .inv .1))
+    let s = c .before .before .before .before .before .before .args in
+    let program = programOf (s .page .now) (s .platform) in
+    rw (← c .before .before .before .before .of-program .ensures, c .before .before .enum-told .given .1, scan-end (successorsOf program) (c .before .loop .k) (c .before .loop .bound) (countOf program) (omega arith) (c .before .loop .inv .1))
 
 pub count-spec : {M : Type 1} → statement M
-count-spec = tie.close (tie.spec Inv-loop μ-loop fits-requires returns cast-k loop-holds sub-k
+count-spec = tie.close (tie.spec Inv-loop μ-loop of-program-requires enum-known-why returns enum-told cast-k loop-holds sub-k
     read-bundle-requires bound-after-requires loop-less loop-again returns-2)

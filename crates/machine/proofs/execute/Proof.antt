@@ -1,7 +1,7 @@
 use mathlib.Core.Path.{refl}
 use native.Mathlib.Omega.{arith}
 use borrow.Author.Tests.{le-ltb}
-use Rattle.place.specs.Places.{standsAt}
+use Rattle.place.specs.Places.{instructionAt}
 use Rattle.instruction.specs.Instructions.{effectOf, instructionOf}
 use Rattle.machine.specs.Executed.{effectRam}
 use borrow.Author.Needs.{needs}
@@ -16,7 +16,7 @@ unfolding instructionOf
 returns c = rw (← c .before .before .before .before .before .before .before .before .before .pre .1) (c .before .before .perform .ensures)
 
 returns-2 : tie.Need-returns-2
-unfolding instructionOf standsAt effectOf effectRam
+unfolding instructionOf instructionAt effectOf effectRam
 returns-2 c = rw (le-ltb _ _ (c .before .if1 .left)) (c .unlisted .ensures, refl)
 
 pub execute-spec : {M : Type 1} → statement M

@@ -27,7 +27,7 @@ loop-holds : tie.Need-loop-holds Inv-loop μ-loop
 loop-holds c = (rw sub-zero, search needs, refl, search needs)
 
 next-place-requires : tie.Need-next-place-requires Inv-loop μ-loop
-next-place-requires c κs = let h = data-inside _ _ _ (sym (c .before .before .before .before .stands-at .ensures) ∙ c .before .before .i .given .1) in omega (arith, h, c .before .before .before .before .before .before .before .before .before .before .pre)
+next-place-requires c κs = let h = data-inside _ _ _ (sym (c .before .before .before .before .instruction-at .ensures) ∙ c .before .before .i .given .1) in omega (arith, h, c .before .before .before .before .before .before .before .before .before .before .pre)
 
 add-steps : tie.Need-add-steps Inv-loop μ-loop
 add-steps c = omega arith
@@ -45,14 +45,14 @@ loop-again c = let kept = c .before .before .before .before .before .before .bef
     (λ x. x .2 ∙ none-written r w (x .1 .given .1))
     (c .match2 .came)
     in (
-      data-turn _ _ _ _ _ _ _ _ _ _ (c .before .before .before .before .before .before .before .before .before .before .before .before .loop-test .taken) (sym (c .before .before .before .before .before .before .before .before .before .before .before .stands-at .ensures) ∙ c .before .before .before .before .before .before .before .before .before .i .given .1) (c .before .before .compute .ensures) (c .before .before .before .before .before .before .next-place .ensures) written (kept .0),
+      data-turn _ _ _ _ _ _ _ _ _ _ (c .before .before .before .before .before .before .before .before .before .before .before .before .loop-test .taken) (sym (c .before .before .before .before .before .before .before .before .before .before .before .instruction-at .ensures) ∙ c .before .before .before .before .before .before .before .before .before .i .given .1) (c .before .before .compute .ensures) (c .before .before .before .before .before .before .next-place .ensures) written (kept .0),
       omega arith,
       search needs,
       registered-length r _ w written (kept .3),
     )
 
 execute-requires : tie.Need-execute-requires Inv-loop μ-loop
-execute-requires c κs = (c .before .before .before .before .before .before .before .before .pre, c .before .before .stands-at .ensures, λ operation e. other-tag (rw e at (c .before .match .keys2)))
+execute-requires c κs = (c .before .before .before .before .before .before .before .before .pre, c .before .before .instruction-at .ensures, λ operation e. other-tag (rw e at (c .before .match .keys2)))
 
 add-steps-2 : tie.Need-add-steps-2 Inv-loop μ-loop
 add-steps-2 c = omega (arith, c .before .before .before .before .before .before .before .before .before .before .loop-test .taken, c .before .before .before .before .before .before .before .before .before .before .before .before .before .before .before .fits)

@@ -22,5 +22,5 @@ slice-aggregate-run-bytes-3 c = zeros 257 _ (omega arith)
 
 pub run-lengths-spec : {M : Type 1} → statement M
 run-lengths-spec = tie.close (tie.spec (λ c. search needs) (λ c. search needs) (λ c. search needs)
-    (λ c. search needs) slice-aggregate-run-bytes (λ c κs. tt) (λ c. search needs) slice-aggregate-run-bytes-2
+    (λ c. search needs) slice-aggregate-run-bytes (λ c. search needs) slice-aggregate-run-bytes-2
     (λ c. search needs) slice-aggregate-run-bytes-3 (λ c κs. tt) (λ c. search needs))
