@@ -39,7 +39,7 @@
  * it against mb_version() before any other call: the archive of another version
  * takes other arguments, and the linker doesn't see it. */
 #define MB_VERSION_MAJOR 0
-#define MB_VERSION_MINOR 3
+#define MB_VERSION_MINOR 4
 #define MB_VERSION_PATCH 0
 #define MB_VERSION (65536u * MB_VERSION_MAJOR + 256u * MB_VERSION_MINOR + MB_VERSION_PATCH)
 
@@ -64,7 +64,7 @@ enum {
 #define MB_RAM_START 0x10000u
 #define MB_EXTERNAL_START 0x80000000u
 
-/* Answers. 1 to 8 are 01's refusals, tested in this order. */
+/* Answers: 0, or a refusal's number. Each call below names those that it tests, in their order. */
 enum {
     MB_ACCEPTED = 0,
     MB_REFUSED_PAGE_LENGTH = 1,
@@ -75,9 +75,16 @@ enum {
     MB_REFUSED_FORM_LENGTH = 6,
     MB_REFUSED_FORM_RANGE = 7,
     MB_REFUSED_NO_SUCH_BUNDLE = 8,
+    MB_REFUSED_UNKNOWN_PROFILE = 18,
     /* The library's own, of a step and a run: a base kind above 2, or an offset
-     * with MB_BASE_NONE. It stands after 1, 2 and 3, before 4. */
+     * with MB_BASE_NONE. It stands after 18, 1, 2 and 3, before 4. */
     MB_REFUSED_NO_RECORD = 255
+};
+
+/* Profiles: which of the listed encodings there are. Any other number is refused (18). */
+enum {
+    MB_PROFILE_FULL = 0, /* all of them */
+    MB_PROFILE_SMALL = 1 /* an ARMv6-M core: none of 32 bits, no cbz, no cbnz */
 };
 
 /* What the reader says of a bundle. */
@@ -126,17 +133,17 @@ enum {
 /* ---- The proved calls
  *
  * The archive's functions as they are proved, over bytes and numbers, with a
- * record as the 44 bytes of docs/MACHINE.md's stored form, and never_return as
- * mb_program has it. No pointer may be null, not even where the length is 0. A
- * host uses the calls further below, which are over these. */
+ * record as the 44 bytes of docs/MACHINE.md's stored form, and never_return and
+ * profile as mb_program has them. No pointer may be null, not even where the
+ * length is 0. A host uses the calls further below, which are over these. */
 
 uint32_t mb_raw_version(void);
 
 uint32_t mb_raw_count(const uint8_t *page, size_t page_length, uint64_t never_return,
-                      uint32_t *count);
+                      uint32_t profile, uint32_t *count);
 
 uint32_t mb_raw_read_bundle(const uint8_t *page, size_t page_length, uint64_t never_return,
-                            uint32_t k, uint32_t *kind, uint32_t *largest);
+                            uint32_t profile, uint32_t k, uint32_t *kind, uint32_t *largest);
 
 uint32_t mb_raw_validate(uint32_t v, const uint8_t *external, size_t external_length,
                          uint32_t *kind, uint32_t *offset);
@@ -154,14 +161,14 @@ uint32_t mb_raw_load(const uint8_t *stored, size_t stored_length,
  * isn't fit is refused by 4 or 5. Bytes that hold no record (255) are not 44, or
  * have a base kind above 2, an offset though the kind is none, or flags above 15. */
 uint32_t mb_raw_run(const uint8_t *page, size_t page_length, uint64_t never_return,
-                    uint8_t *ram, size_t ram_length,
+                    uint32_t profile, uint8_t *ram, size_t ram_length,
                     const uint8_t *external, size_t external_length,
                     uint8_t *record, size_t record_length, uint32_t budget,
                     uint32_t *kind, uint32_t *value, uint32_t *literal,
                     uint32_t *steps);
 
 uint32_t mb_raw_step(const uint8_t *page, size_t page_length, uint64_t never_return,
-                     uint8_t *ram, size_t ram_length,
+                     uint32_t profile, uint8_t *ram, size_t ram_length,
                      const uint8_t *external, size_t external_length,
                      uint8_t *record, size_t record_length,
                      uint32_t *kind, uint32_t *value, uint32_t *literal,
@@ -173,12 +180,12 @@ void mb_raw_exit(uint32_t low, uint32_t literal,
 
 /* ---- What a host keeps
  *
- * Fields will be added: a profile, a window of RAM. So make these by their
- * initialisers, never field by field: what those give then means what it means
- * now. */
+ * Fields will be added, as a window of RAM. So make these by their initialisers,
+ * never field by field: what those give then means what it means now. */
 
-/* A filter. By mb_program_of, after which the host may set never_return: before
- * mb_setting_of, which copies the program, or in the setting's own program. */
+/* A filter. By mb_program_of, after which the host may set never_return and
+ * profile: before mb_setting_of, which copies the program, or in the setting's own
+ * program. */
 typedef struct {
     const uint8_t *page;
     size_t page_length;
@@ -187,6 +194,9 @@ typedef struct {
      * and a run that stops at one keeps its place: called again as it is, it stops
      * there again, for ever. 0 as initialised: all return. */
     uint64_t never_return;
+    /* The processor that the filter is for, one of MB_PROFILE_*. An encoding that the
+     * profile lacks makes its bundle bad. MB_PROFILE_FULL as initialised. */
+    uint32_t profile;
 } mb_program;
 
 /* What a filter runs on, RAM aside. By mb_setting_of. */
@@ -318,6 +328,7 @@ static inline mb_program mb_program_of(const uint8_t *page, size_t page_length)
     program.page = page;
     program.page_length = page_length;
     program.never_return = 0;
+    program.profile = MB_PROFILE_FULL;
     return program;
 }
 
@@ -366,20 +377,20 @@ static inline uint32_t mb_version(void)
     return mb_raw_version();
 }
 
-/* The count of a program. Refused (1): count 0. */
+/* The count of a program. Refused (18, 1): count 0. */
 static inline uint32_t mb_count(const mb_program *program, uint32_t *count)
 {
     const uint8_t own = 0;
     return mb_raw_count(mb_internal_read(program->page, program->page_length, &own), program->page_length,
-                        program->never_return, count);
+                        program->never_return, program->profile, count);
 }
 
-/* Bundle k of a program. Refused (1, 8): a bad bundle. */
+/* Bundle k of a program. Refused (18, 1, 8): a bad bundle. */
 static inline uint32_t mb_read_bundle(const mb_program *program, uint32_t k, mb_reading *reading)
 {
     const uint8_t own = 0;
     return mb_raw_read_bundle(mb_internal_read(program->page, program->page_length, &own), program->page_length,
-                              program->never_return, k, &reading->kind, &reading->largest);
+                              program->never_return, program->profile, k, &reading->kind, &reading->largest);
 }
 
 /* The base of an address. Of the setting, the external data alone is looked at.
@@ -416,7 +427,7 @@ static inline uint32_t mb_load(const uint8_t *stored, size_t stored_length, mb_r
     return mb_internal_said(answer, refused);
 }
 
-/* Runs a record with a budget of steps. Refused (1, 2, 3, 255, 4, 5): 0 steps. */
+/* Runs a record with a budget of steps. Refused (18, 1, 2, 3, 255, 4, 5): 0 steps. */
 static inline uint32_t mb_run(const mb_setting *setting, uint8_t *ram, size_t ram_length,
                               mb_record *record, uint32_t budget, mb_stopped *stopped)
 {
@@ -425,7 +436,8 @@ static inline uint32_t mb_run(const mb_setting *setting, uint8_t *ram, size_t ra
     uint32_t answer;
     mb_internal_pack(record, bytes);
     answer = mb_raw_run(mb_internal_read(program->page, program->page_length, &own[0]), program->page_length,
-                        program->never_return, mb_internal_written(ram, ram_length, &own[1]), ram_length,
+                        program->never_return, program->profile,
+                        mb_internal_written(ram, ram_length, &own[1]), ram_length,
                         mb_internal_read(setting->external, setting->external_length, &own[2]),
                         setting->external_length, bytes, sizeof bytes, budget,
                         &stopped->kind, &stopped->value, &stopped->literal, &stopped->steps);
@@ -470,6 +482,7 @@ static inline const char *mb_refusal_words(uint32_t number)
     case MB_REFUSED_FORM_LENGTH: return "stored form, or the room lent for it, is not 44 bytes";
     case MB_REFUSED_FORM_RANGE: return "stored or given record is out of range";
     case MB_REFUSED_NO_SUCH_BUNDLE: return "asked bundle is not in the page";
+    case MB_REFUSED_UNKNOWN_PROFILE: return "unknown profile";
     case MB_REFUSED_NO_RECORD: return "bytes hold no record";
     default: return "unknown";
     }

@@ -92,11 +92,15 @@ found held_header "$header" 's/uint8_t \*ram, size_t ram_length/uint8_t *record,
 found held_header "$header" 's/uint32_t k,/uint64_t k,/'
 found held_header "$header" '/mb_raw_read_bundle/s/uint64_t never_return/uint32_t never_return/'
 found held_header "$header" '/mb_raw_step/s/, uint64_t never_return//'
+found held_header "$header" 's/uint32_t profile, uint32_t k/uint32_t k, uint32_t profile/'
+found held_header "$header" 's/uint32_t profile, uint32_t \*count/uint32_t *count/'
 found held_header "$header" 's/^uint32_t mb_raw_fresh/uint8_t mb_raw_fresh/'
 found held_header "$header" '/mb_raw_version/d'
 found held_declarations "$declarations" 's/page: \*const u8/page: *mut u8/'
 found held_declarations "$declarations" 's/value: \*mut u32/values: *mut u32/; s/literal: \*mut u32/value: *mut u32/; s/values: \*mut u32/literal: *mut u32/'
 found held_declarations "$declarations" 's/budget: u32/budget: u64/'
 found held_declarations "$declarations" 's/never_return: u64/never_return: u32/'
+found held_declarations "$declarations" 's/profile: u32/profile: u64/'
+found held_declarations "$declarations" 's/profile: u32/which: u32/; s/ k: u32/ profile: u32/; s/which: u32/k: u32/'
 found held_declarations "$declarations" 's/page_length: usize/page_length: u32/'
-echo "header.sh: $(wc -l <"$scratch/exported") declarations held to the source in C and in Rust; thirteen wrong ones found"
+echo "header.sh: $(wc -l <"$scratch/exported") declarations held to the source in C and in Rust; seventeen wrong ones found"

@@ -23,8 +23,9 @@ static struct areas lent, before;
 static mb_record record, record_before;
 static size_t page_length, ram_length, external_length, room_length;
 
-/* The syscalls that never return, and those of them that a test begins with. */
+/* The syscalls that never return and the profile, and those that a test begins with. */
 static uint64_t never_return, never_return_at_first;
+static uint32_t profile, profile_at_first;
 
 #define BIT(n) (UINT64_C(1) << (n))
 #define ALL UINT64_MAX
@@ -53,6 +54,7 @@ static mb_program program(void)
 {
     mb_program of = mb_program_of(lent.page, page_length);
     of.never_return = never_return;
+    of.profile = profile;
     return of;
 }
 
@@ -92,6 +94,7 @@ static void begin(void)
     external_length = 0;
     room_length = MB_RECORD_BYTES;
     never_return = never_return_at_first;
+    profile = profile_at_first;
     record = fresh_by_hand();
 }
 
@@ -120,6 +123,25 @@ static struct answer step(void)
     return a;
 }
 
+/* The proved run and step, on bytes. The header's step is a run, so that only here is the proved one called. */
+static struct answer raw_run(uint8_t *bytes, size_t length)
+{
+    struct answer a = {STALE, stale_stop};
+    mb_stopped *s = &a.stopped;
+    a.code = mb_raw_run(lent.page, page_length, never_return, profile, lent.ram, ram_length, lent.external, external_length,
+                        bytes, length, 10, &s->kind, &s->value, &s->literal, &s->steps);
+    return a;
+}
+
+static struct answer raw_step(uint8_t *bytes, size_t length)
+{
+    struct answer a = {STALE, stale_stop};
+    mb_stopped *s = &a.stopped;
+    a.code = mb_raw_step(lent.page, page_length, never_return, profile, lent.ram, ram_length, lent.external, external_length,
+                         bytes, length, &s->kind, &s->value, &s->literal, &s->steps);
+    return a;
+}
+
 static void check_answer(int line, struct answer a, uint32_t code, mb_stopped expected)
 {
     check(line, "code", a.code, code);
@@ -132,15 +154,37 @@ static void check_answer(int line, struct answer a, uint32_t code, mb_stopped ex
 #define STOPS(got, kind, value, literal, steps) \
     check_answer(__LINE__, (got), MB_ACCEPTED, (mb_stopped){(kind), (value), (literal), (steps)})
 
-/* A step and a run are refused, and leave everything as it was. */
+/* What was refused left everything as it was kept. */
+static void check_refusal(int line, struct answer a, uint32_t code)
+{
+    check_answer(line, a, code, (mb_stopped){MB_STOP_REFUSED, code, 0, 0});
+    check(line, "changed", changed(), 0);
+}
+
+/* The proved step and run are refused on such bytes, and leave them as they were. */
+static void check_bytes_refused(int line, const uint8_t *bytes, size_t length, uint32_t code)
+{
+    uint8_t given[MB_RECORD_BYTES + 1], given_before[sizeof given];
+    memset(given, 0x5A, sizeof given);
+    memcpy(given, bytes, length);
+    memcpy(given_before, given, sizeof given);
+    check_refusal(line, raw_run(given, length), code);
+    check(line, "bytes changed by the run", memcmp(given, given_before, sizeof given) != 0, 0);
+    check_refusal(line, raw_step(given, length), code);
+    check(line, "bytes changed by the step", memcmp(given, given_before, sizeof given) != 0, 0);
+}
+
+#define BYTES_REFUSED(bytes, length, code) check_bytes_refused(__LINE__, (bytes), (length), (code))
+
+/* A step and a run are refused, the header's and the proved ones. */
 static void check_refused(int line, uint32_t code)
 {
-    mb_stopped expected = {MB_STOP_REFUSED, code, 0, 0};
+    uint8_t bytes[MB_RECORD_BYTES];
     keep();
-    check_answer(line, run(10), code, expected);
-    check(line, "changed by the run", changed(), 0);
-    check_answer(line, step(), code, expected);
-    check(line, "changed by the step", changed(), 0);
+    check_refusal(line, run(10), code);
+    check_refusal(line, step(), code);
+    mb_internal_pack(&record, bytes);
+    check_bytes_refused(line, bytes, sizeof bytes, code);
 }
 
 #define REFUSED(code) check_refused(__LINE__, (code))
@@ -195,6 +239,7 @@ static void initialisers(void)
     CHECK(on.program.page == lent.page, true);
     CHECK(on.program.page_length == page_length, true);
     CHECK(on.program.never_return == 0, true);
+    CHECK(on.program.profile, MB_PROFILE_FULL);
     CHECK(on.external == lent.external, true);
     CHECK(on.external_length == external_length, true);
 }
@@ -210,6 +255,17 @@ static void check_count(int line, uint32_t expected)
 }
 
 #define COUNT(expected, ...) (PAGE(__VA_ARGS__), check_count(__LINE__, (expected)))
+
+/* The number of what is refused of the program; no bundle is counted. */
+static void check_not_counted(int line, uint32_t code)
+{
+    uint32_t count = STALE;
+    mb_program of = program();
+    check(line, "code", mb_count(&of, &count), code);
+    check(line, "count", count, 0);
+}
+
+#define NOT_COUNTED(code) check_not_counted(__LINE__, (code))
 
 static void counts(void)
 {
@@ -248,10 +304,8 @@ static void count_refused(void)
     begin();
     keep();
     for (size_t i = 0; i < sizeof lengths / sizeof lengths[0]; i++) {
-        uint32_t count = STALE;
-        mb_program of = mb_program_of(lent.page, lengths[i]);
-        CHECK(mb_count(&of, &count), MB_REFUSED_PAGE_LENGTH);
-        CHECK(count, 0);
+        page_length = lengths[i];
+        NOT_COUNTED(MB_REFUSED_PAGE_LENGTH);
     }
     CHECK(changed(), 0);
 }
@@ -322,8 +376,10 @@ static void bases(void)
     NO_BASE(0x10000, 1);
     NO_BASE(0x10000, 255);
     NO_BASE(0x80000000, 257);
-    page_length = 3; /* which is not looked at */
+    page_length = 3; /* which is not looked at, and neither is the profile */
+    profile = 2;
     BASE(0x10000, 0, MB_BASE_RAM, 0);
+    NO_BASE(0x10000, 1);
     CHECK(changed(), 0);
 }
 
@@ -451,29 +507,6 @@ static void form_length(void)
 
 /* ---- the proved calls: a record of another length, flags above 15 */
 
-/* A proved run or step was refused; what it answers. */
-static uint32_t raw_refused(uint32_t code, mb_stopped stopped)
-{
-    check_answer(__LINE__, (struct answer){code, stopped}, code, (mb_stopped){MB_STOP_REFUSED, code, 0, 0});
-    return code;
-}
-
-static uint32_t raw_run(uint8_t *bytes, size_t length)
-{
-    mb_stopped s = stale_stop;
-    uint32_t code = mb_raw_run(lent.page, page_length, never_return, lent.ram, ram_length, lent.external, external_length,
-                               bytes, length, 10, &s.kind, &s.value, &s.literal, &s.steps);
-    return raw_refused(code, s);
-}
-
-static uint32_t raw_step(uint8_t *bytes, size_t length)
-{
-    mb_stopped s = stale_stop;
-    uint32_t code = mb_raw_step(lent.page, page_length, never_return, lent.ram, ram_length, lent.external, external_length,
-                                bytes, length, &s.kind, &s.value, &s.literal, &s.steps);
-    return raw_refused(code, s);
-}
-
 static void raw_lengths(void)
 {
     const size_t lengths[] = {0, 43, 45};
@@ -489,8 +522,7 @@ static void raw_lengths(void)
         CHECK(mb_raw_store(bytes, lengths[i], lent.room, 43), MB_REFUSED_FORM_LENGTH);
         CHECK(mb_raw_load(full_bytes, MB_RECORD_BYTES, bytes, lengths[i]), MB_REFUSED_FORM_LENGTH);
         CHECK(mb_raw_load(full_bytes, 43, bytes, lengths[i]), MB_REFUSED_FORM_LENGTH);
-        CHECK(raw_run(bytes, lengths[i]), MB_REFUSED_NO_RECORD);
-        CHECK(raw_step(bytes, lengths[i]), MB_REFUSED_NO_RECORD);
+        BYTES_REFUSED(bytes, lengths[i], MB_REFUSED_NO_RECORD);
     }
     CHECK(changed(), 0);
     CHECK(memcmp(bytes, kept, sizeof bytes) == 0, true);
@@ -498,19 +530,15 @@ static void raw_lengths(void)
 
 static void raw_flags(void)
 {
-    uint8_t bytes[MB_RECORD_BYTES], kept[sizeof bytes];
+    uint8_t bytes[MB_RECORD_BYTES];
     begin();
     CHECK(mb_raw_fresh(bytes, sizeof bytes), MB_ACCEPTED);
     bytes[43] = 16;
-    memcpy(kept, bytes, sizeof bytes);
     keep();
     CHECK(mb_raw_store(bytes, sizeof bytes, lent.room, MB_RECORD_BYTES), MB_REFUSED_FORM_RANGE);
-    CHECK(raw_run(bytes, sizeof bytes), MB_REFUSED_NO_RECORD);
-    CHECK(raw_step(bytes, sizeof bytes), MB_REFUSED_NO_RECORD);
+    BYTES_REFUSED(bytes, sizeof bytes, MB_REFUSED_NO_RECORD);
     external_length = 1; /* 3 before 255 */
-    CHECK(raw_run(bytes, sizeof bytes), MB_REFUSED_EXTERNAL_LENGTH);
-    CHECK(changed(), 0);
-    CHECK(memcmp(bytes, kept, sizeof bytes) == 0, true);
+    BYTES_REFUSED(bytes, sizeof bytes, MB_REFUSED_EXTERNAL_LENGTH);
 }
 
 /* ---- steps and runs */
@@ -725,16 +753,19 @@ static void refused_places(void)
     REFUSED(MB_REFUSED_UNFIT_PLACE);
 }
 
-/* Everything wrong at first, and then mended part by part: 1 to 3, 255, 4, 5. */
+/* Everything wrong at first, and then mended part by part: 18, 1 to 3, 255, 4, 5. */
 static void order(void)
 {
     begin();
+    profile = 2;
     page_length = 3;
     ram_length = 1;
     external_length = 1;
     record.sp = 0;
     record.place = 128;
     no_record(0);
+    REFUSED(MB_REFUSED_UNKNOWN_PROFILE);
+    profile = profile_at_first;
     REFUSED(MB_REFUSED_PAGE_LENGTH);
     page_length = 16;
     REFUSED(MB_REFUSED_RAM_LENGTH);
@@ -849,6 +880,148 @@ static void other_services(void)
     COUNT(0, 0xBF00, 0xDF01, 0x0000, 0x8000);
 }
 
+/* ---- profiles */
+
+/* The counts of a page in the full profile and in the small one. */
+static void check_counts(int line, uint32_t in_full, uint32_t in_small)
+{
+    profile = MB_PROFILE_FULL;
+    check_count(line, in_full);
+    profile = MB_PROFILE_SMALL;
+    check_count(line, in_small);
+}
+
+#define COUNTS(in_full, in_small, ...) (PAGE(__VA_ARGS__), check_counts(__LINE__, (in_full), (in_small)))
+
+static void counts_of_profiles(void)
+{
+    begin();
+    COUNTS(2, 0, 0xF241, 0x2034, 0xBF00, 0xDF00); /* movw */
+    COUNTS(2, 0, 0xF6C0, 0x7700, 0xBF00, 0xDF00); /* movt */
+    COUNTS(2, 0, 0xF8C9, 0x0000, 0xBF00, 0xDF00); /* str */
+    COUNTS(2, 0, 0xF9B8, 0x1000, 0xBF00, 0xDF00); /* ldrsh */
+    COUNTS(2, 0, 0xFBB0, 0xF6F1, 0xBF00, 0xDF00); /* udiv */
+    COUNTS(2, 0, 0xB100, 0xBF00, 0xBF00, 0xDF00); /* cbz */
+    COUNTS(2, 0, 0xB900, 0xBF00, 0xBF00, 0xDF00); /* cbnz */
+    COUNTS(3, 0, 0xBF00, 0xB908, 0xBF00, 0xDF00, 0xBF00, 0xDF00); /* cbnz in a second half */
+    COUNTS(1, 0, 0xDF00, 0xB900); /* behind a terminator, where it must be listed too */
+    COUNTS(3, 1, 0xBF00, 0xDF00, 0xF241, 0x2034, 0xBF00, 0xDF00); /* what stands before it is code */
+    COUNTS(1, 1, 0xBF00, 0xDF01, 0xF241, 0x0001); /* a tail call's literal, which is no code */
+}
+
+/* Two bundles in the full profile and in the small one, which lacks the first: its largest successor in the full one. */
+static void check_lacking(int line, uint32_t largest)
+{
+    for (profile = MB_PROFILE_FULL; profile <= MB_PROFILE_SMALL; profile++) {
+        bool lacks = profile == MB_PROFILE_SMALL;
+        check_bundle(line, 0, MB_ACCEPTED, lacks ? MB_SUCCESSOR_BAD : MB_SUCCESSOR_LARGEST, lacks ? 0 : largest);
+        check_bundle(line, 1, MB_ACCEPTED, MB_SUCCESSOR_LARGEST, 3); /* read alike */
+    }
+}
+
+static void bundles_of_profiles(void)
+{
+    begin();
+    PAGE(0xF241, 0x2034, 0x2800, 0xD001);
+    check_lacking(__LINE__, 1);
+    PAGE(0xBF00, 0xB918, 0x2800, 0xD001);
+    check_lacking(__LINE__, 3);
+}
+
+/* A return, and what the small profile lacks: there a place in it or behind it is not fit, in the full one it is run. */
+static void check_places(int line, uint32_t steps)
+{
+    profile = MB_PROFILE_SMALL;
+    record.place = 0;
+    check_answer(line, run(100000), MB_ACCEPTED, (mb_stopped){MB_STOP_SERVICE, 0, 0, 2});
+    for (record.place = 2; record.place < page_length / 2; record.place++)
+        check_refused(line, MB_REFUSED_UNFIT_PLACE);
+    profile = MB_PROFILE_FULL;
+    record.place = 2;
+    check_answer(line, run(100000), MB_ACCEPTED, (mb_stopped){MB_STOP_SERVICE, 0, 0, steps});
+}
+
+static void places_of_profiles(void)
+{
+    begin();
+    PAGE(0xBF00, 0xDF00, 0xF241, 0x2034, 0xBF00, 0xDF00);
+    check_places(__LINE__, 3);
+    CHECK(record.r[0], 0x1234);
+    PAGE(0xBF00, 0xDF00, 0xBF00, 0xB908, 0xBF00, 0xBF00, 0xBF00, 0xDF00);
+    check_places(__LINE__, 4); /* taken, since r0 isn't 0 */
+}
+
+/* Numbers of no profile; of some a part is the number of one. */
+static const uint32_t unknown_profiles[] = {2, 255, 256, 0x10001, 0x80000000, UINT32_MAX};
+
+enum { UNKNOWN_PROFILES = sizeof unknown_profiles / sizeof unknown_profiles[0] };
+
+/* 18 before 1 and 8. */
+static void unknown_profiles_of_pages(void)
+{
+    begin();
+    keep();
+    for (size_t i = 0; i < UNKNOWN_PROFILES; i++) {
+        profile = unknown_profiles[i];
+        for (page_length = 15; page_length <= 16; page_length++) {
+            NOT_COUNTED(MB_REFUSED_UNKNOWN_PROFILE);
+            BUNDLE(0, MB_REFUSED_UNKNOWN_PROFILE, MB_SUCCESSOR_BAD, 0);
+            BUNDLE(4, MB_REFUSED_UNKNOWN_PROFILE, MB_SUCCESSOR_BAD, 0);
+        }
+    }
+    CHECK(changed(), 0);
+}
+
+/* One thing each that a step and a run refuse in a known profile; by which number. */
+static uint32_t spoil(int which)
+{
+    switch (which) {
+    case 0: page_length = 3; return MB_REFUSED_PAGE_LENGTH;
+    case 1: ram_length = 1; return MB_REFUSED_RAM_LENGTH;
+    case 2: external_length = 1; return MB_REFUSED_EXTERNAL_LENGTH;
+    case 3: no_record(0); return MB_REFUSED_NO_RECORD;
+    case 4: out_of_range(0); return MB_REFUSED_UNFIT_RECORD;
+    default: record.place = 6; return MB_REFUSED_UNFIT_PLACE;
+    }
+}
+
+/* 18 before every other refusal of a step and a run, and where there is no other. */
+static void unknown_profiles_of_runs(void)
+{
+    begin();
+    for (size_t i = 0; i < UNKNOWN_PROFILES; i++) {
+        profile = unknown_profiles[i];
+        REFUSED(MB_REFUSED_UNKNOWN_PROFILE);
+    }
+    for (int which = 0; which <= 5; which++) {
+        uint32_t other;
+        begin();
+        other = spoil(which);
+        REFUSED(other);
+        for (size_t i = 0; i < UNKNOWN_PROFILES; i++) {
+            profile = unknown_profiles[i];
+            REFUSED(MB_REFUSED_UNKNOWN_PROFILE);
+        }
+    }
+}
+
+/* 18 before 255 of bytes that no mb_record packs to. */
+static void unknown_profiles_of_bytes(void)
+{
+    uint8_t bytes[MB_RECORD_BYTES];
+    begin();
+    keep();
+    memset(bytes, 0xFF, sizeof bytes);
+    for (size_t length = 43; length <= 44; length++) {
+        profile = profile_at_first;
+        BYTES_REFUSED(bytes, length, MB_REFUSED_NO_RECORD);
+        for (size_t i = 0; i < UNKNOWN_PROFILES; i++) {
+            profile = unknown_profiles[i];
+            BYTES_REFUSED(bytes, length, MB_REFUSED_UNKNOWN_PROFILE);
+        }
+    }
+}
+
 /* ---- null pointers with length 0 */
 
 static void null_page_and_data(void)
@@ -946,22 +1119,42 @@ static void exits_of_stops(void)
     }
 }
 
-int main(void)
+/* ---- all tests */
+
+typedef void (*test)(void);
+
+/* Pages with an encoding that the small profile lacks. */
+static const test of_the_full_profile[] = {
+    counts, movw, word_store, earlier_stores_stay, base_by_service, external_load, other_faults, refused_places,
+};
+
+static const test of_both_profiles[] = {
+    initialisers, count_of_a_full_page, count_refused, bundles, bases, base_at_the_end,
+    stored_and_read_back, not_stored, not_read_back, form_length, raw_lengths, raw_flags,
+    printed_run, budget_zero, slices, other_stops, blt, refused_lengths, refused_records, order,
+    counts_of_syscalls, places_of_syscalls, places_behind_syscalls, other_services,
+    counts_of_profiles, bundles_of_profiles, places_of_profiles,
+    unknown_profiles_of_pages, unknown_profiles_of_runs, unknown_profiles_of_bytes,
+    null_page_and_data, null_in_runs, null_rooms, exits, no_exits, exits_of_stops,
+};
+
+/* Pages without direct syscalls, as most tests have, answer the same whatever the set. */
+static void pass(const test *tests, size_t number, uint32_t begun_with)
 {
-    void (*const tests[])(void) = {
-        initialisers, counts, count_of_a_full_page, count_refused, bundles, bases, base_at_the_end,
-        stored_and_read_back, not_stored, not_read_back, form_length, raw_lengths, raw_flags,
-        printed_run, budget_zero, slices, other_stops, movw, blt, word_store,
-        earlier_stores_stay, base_by_service, external_load, other_faults,
-        refused_lengths, refused_records, refused_places, order,
-        counts_of_syscalls, places_of_syscalls, places_behind_syscalls, other_services,
-        null_page_and_data, null_in_runs, null_rooms, exits, no_exits, exits_of_stops,
-    };
-    /* Pages without direct syscalls, as most tests have, answer the same whatever the set. */
     const uint64_t sets[] = {0, ALL};
-    for (size_t i = 0; i < 2 * (sizeof tests / sizeof tests[0]); i++) {
+    profile_at_first = begun_with;
+    for (size_t i = 0; i < 2 * number; i++) {
         never_return_at_first = sets[i % 2];
         tests[i / 2]();
     }
+}
+
+#define PASS(tests, begun_with) pass((tests), sizeof(tests) / sizeof(tests)[0], (begun_with))
+
+int main(void)
+{
+    PASS(of_the_full_profile, MB_PROFILE_FULL);
+    PASS(of_both_profiles, MB_PROFILE_FULL);
+    PASS(of_both_profiles, MB_PROFILE_SMALL);
     return outcome("host.c");
 }

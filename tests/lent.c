@@ -1,14 +1,16 @@
 /* The header's calls with null areas of length 0, over proved calls of this file's own instead of the archive's: what they are
- * lent is never null and never overlaps, which the archive wouldn't show. The set of syscalls is the program's, whole. */
+ * lent is never null and never overlaps, which the archive wouldn't show. The set of syscalls and the profile are the program's,
+ * whole. */
 #include "check.h"
 #include "marshbodkin.h"
 
-/* The syscalls that never return, as the program has them. */
+/* The syscalls that never return and the profile, as the program has them. */
 #define NEVER_RETURN UINT64_C(0x8000000000000001)
+#define PROFILE UINT32_C(0x80000001)
 
 /* The areas of one call, all of length 0. */
 static const uint8_t *areas[3];
-static uint32_t areas_lent, other_lengths, other_sets;
+static uint32_t areas_lent, other_lengths, other_sets, other_profiles;
 
 static void take(const uint8_t *area, size_t length)
 {
@@ -16,22 +18,23 @@ static void take(const uint8_t *area, size_t length)
     other_lengths += length != 0;
 }
 
-static void take_program(const uint8_t *page, size_t page_length, uint64_t never_return)
+static void take_program(const uint8_t *page, size_t page_length, uint64_t never_return, uint32_t profile)
 {
     take(page, page_length);
     other_sets += never_return != NEVER_RETURN;
+    other_profiles += profile != PROFILE;
 }
 
-uint32_t mb_raw_count(const uint8_t *page, size_t page_length, uint64_t never_return, uint32_t *count)
+uint32_t mb_raw_count(const uint8_t *page, size_t page_length, uint64_t never_return, uint32_t profile, uint32_t *count)
 {
-    take_program(page, page_length, never_return);
+    take_program(page, page_length, never_return, profile);
     return *count = 0;
 }
 
-uint32_t mb_raw_read_bundle(const uint8_t *page, size_t page_length, uint64_t never_return, uint32_t k, uint32_t *kind,
-                            uint32_t *largest)
+uint32_t mb_raw_read_bundle(const uint8_t *page, size_t page_length, uint64_t never_return, uint32_t profile, uint32_t k,
+                            uint32_t *kind, uint32_t *largest)
 {
-    take_program(page, page_length, never_return);
+    take_program(page, page_length, never_return, profile);
     return *kind = *largest = k;
 }
 
@@ -61,11 +64,12 @@ uint32_t mb_raw_load(const uint8_t *stored, size_t stored_length, uint8_t *recor
 }
 
 /* It answers the budget, which for a step is 1. */
-uint32_t mb_raw_run(const uint8_t *page, size_t page_length, uint64_t never_return, uint8_t *ram, size_t ram_length,
-                    const uint8_t *external, size_t external_length, uint8_t *record, size_t record_length,
-                    uint32_t budget, uint32_t *kind, uint32_t *value, uint32_t *literal, uint32_t *steps)
+uint32_t mb_raw_run(const uint8_t *page, size_t page_length, uint64_t never_return, uint32_t profile, uint8_t *ram,
+                    size_t ram_length, const uint8_t *external, size_t external_length, uint8_t *record,
+                    size_t record_length, uint32_t budget, uint32_t *kind, uint32_t *value, uint32_t *literal,
+                    uint32_t *steps)
 {
-    take_program(page, page_length, never_return);
+    take_program(page, page_length, never_return, profile);
     take(ram, ram_length);
     take(external, external_length);
     *kind = *value = *literal = *steps = 0;
@@ -79,6 +83,7 @@ static void check_lent(int line, uint32_t answer, uint32_t expected, uint32_t nu
     check(line, "areas", areas_lent, number);
     check(line, "other lengths", other_lengths, 0);
     check(line, "other sets", other_sets, 0);
+    check(line, "other profiles", other_profiles, 0);
     for (uint32_t i = 0; i < areas_lent; i++) {
         check(line, "null", areas[i] == NULL, false);
         check(line, "overlap", i > 0 && areas[i] == areas[i - 1], false);
@@ -99,6 +104,7 @@ int main(void)
     mb_base base;
     uint32_t count;
     program.never_return = NEVER_RETURN;
+    program.profile = PROFILE;
     setting = mb_setting_of(program, NULL, 0);
     LENT(mb_count(&program, &count), 0, 1);
     LENT(mb_read_bundle(&program, 0, &reading), 0, 1);

@@ -1,5 +1,6 @@
 /* How much stack each call of the archive takes: it is made on a painted stack of its own, and what isn't painted any more
- * is what it took, from the arguments that its caller pushes down. Prints a line for each call; fails above MB_STACK_BYTES. */
+ * is what it took, from the arguments that its caller pushes down. Prints a line for each call, with the most that it took in a
+ * profile; fails above MB_STACK_BYTES. */
 #define _XOPEN_SOURCE 700
 #include "marshbodkin.h"
 #include "records.h"
@@ -18,13 +19,14 @@ static void (*measured)(void);
 static uint8_t page[MB_PAGE_MOST], ram[MB_RAM_BYTES], external[256], record[MB_RECORD_BYTES], room[MB_RECORD_BYTES];
 static size_t page_length;
 static const uint64_t never_return = 1; /* syscall 0, and not 1, which the page has */
+static uint32_t profile;
 static uint32_t code, numbers[5];
 static mb_stopped stopped;
 
 /* ---- the calls, each of which leaves 0 in code */
 
 static void version(void) { code = mb_raw_version() - MB_VERSION; }
-static void count(void) { code = mb_raw_count(page, page_length, never_return, &numbers[0]); }
+static void count(void) { code = mb_raw_count(page, page_length, never_return, profile, &numbers[0]); }
 static void validate(void) { code = mb_raw_validate(0x80000001, external, sizeof external, &numbers[0], &numbers[1]); }
 static void fresh(void) { code = mb_raw_fresh(record, sizeof record); }
 static void store(void) { code = mb_raw_store(record, sizeof record, room, sizeof room); }
@@ -33,7 +35,7 @@ static void load(void) { code = mb_raw_load(room, sizeof room, record, sizeof re
 static void read_bundle(void)
 {
     for (uint32_t k = 0; k < page_length / 4; k++)
-        code = mb_raw_read_bundle(page, page_length, never_return, k, &numbers[0], &numbers[1]);
+        code = mb_raw_read_bundle(page, page_length, never_return, profile, k, &numbers[0], &numbers[1]);
 }
 
 static void decode_exit(void)
@@ -47,7 +49,7 @@ static void run(void)
 {
     fresh();
     do {
-        code = mb_raw_run(page, page_length, never_return, ram, sizeof ram, external, sizeof external,
+        code = mb_raw_run(page, page_length, never_return, profile, ram, sizeof ram, external, sizeof external,
                           record, sizeof record, 1000, &stopped.kind, &stopped.value, &stopped.literal, &stopped.steps);
     } while (stopped.kind == MB_STOP_SERVICE);
 }
@@ -56,7 +58,7 @@ static void steps(void)
 {
     fresh();
     do {
-        code = mb_raw_step(page, page_length, never_return, ram, sizeof ram, external, sizeof external,
+        code = mb_raw_step(page, page_length, never_return, profile, ram, sizeof ram, external, sizeof external,
                            record, sizeof record, &stopped.kind, &stopped.value, &stopped.literal, &stopped.steps);
     } while (stopped.kind == MB_STOP_BUDGET || stopped.kind == MB_STOP_SERVICE);
 }
@@ -99,7 +101,7 @@ static size_t taken_by(void (*call)(void))
 
 /* ---- a page that reaches every function of the archive */
 
-static void lend(void)
+static void put_page(void)
 {
     static const uint16_t halfwords[] = {
         0xDFC4, 0xDFE1, /* 0: SP down by 4 words; a base by r1 */
@@ -116,21 +118,54 @@ static void lend(void)
     put_halfwords(page, halfwords, sizeof halfwords / sizeof halfwords[0]);
 }
 
+/* Nops in the stead of the bundles that the small profile lacks: what opens 32 bits begins with 0xE8 or more. */
+static void leave_out_32_bits(void)
+{
+    static const uint16_t nops[] = {0xBF00, 0xBF00};
+    for (size_t at = 0; at < page_length; at += MB_BUNDLE_BYTES)
+        if (page[at + 1] >= 0xE8)
+            put_halfwords(page + at, nops, 2);
+}
+
+static void lend(uint32_t in_profile)
+{
+    profile = in_profile;
+    put_page();
+    if (profile == MB_PROFILE_SMALL)
+        leave_out_32_bits();
+    stopped = mb_nothing_run();
+}
+
+/* ---- all calls */
+
+typedef struct { const char *name; void (*call)(void); bool runs; } named_call;
+
+/* The most stack that a call takes in a profile; it must be accepted, and run to the page's end. */
+static size_t most_taken(named_call named)
+{
+    size_t most = 0;
+    for (uint32_t in = MB_PROFILE_FULL; in <= MB_PROFILE_SMALL; in++) {
+        size_t taken;
+        lend(in);
+        taken = taken_by(named.call);
+        most = taken > most ? taken : most;
+        CHECK(code, MB_ACCEPTED);
+        CHECK(stopped.value, named.runs ? 0x16 : 0);
+    }
+    return most;
+}
+
 int main(void)
 {
-    static const struct { const char *name; void (*call)(void); bool runs; } calls[] = {
+    static const named_call calls[] = {
         {"version", version, false}, {"count", count, false}, {"read_bundle", read_bundle, false},
         {"validate", validate, false}, {"fresh", fresh, false}, {"step", steps, true}, {"run", run, true},
         {"store", store, false}, {"load", load, false}, {"exit", decode_exit, false},
     };
-    lend();
     for (size_t i = 0; i < sizeof calls / sizeof calls[0]; i++) {
-        stopped = mb_nothing_run();
-        size_t taken = taken_by(calls[i].call);
-        printf("mb_raw_%s %zu\n", calls[i].name, taken);
-        CHECK(taken <= MB_STACK_BYTES, true);
-        CHECK(code, MB_ACCEPTED);
-        CHECK(stopped.value, calls[i].runs ? 0x16 : 0);
+        size_t most = most_taken(calls[i]);
+        printf("mb_raw_%s %zu\n", calls[i].name, most);
+        CHECK(most <= MB_STACK_BYTES, true);
     }
     CHECK(taken_by(greedy) > MB_STACK_BYTES, true);
     return outcome("stack.c");

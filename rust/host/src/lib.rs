@@ -3,8 +3,8 @@
 //! what the machine does.
 //!
 //! Page, RAM, external data and record are the host's own; the library keeps
-//! nothing between calls. What is lent can be anything: a call that 01 refuses
-//! gives the [`Refusal`], and leaves RAM and the record as they were.
+//! nothing between calls. What is lent can be anything: a refused call gives
+//! the [`Refusal`], and leaves RAM and the record as they were.
 //!
 //! 01's example page has four bundles, of which three are counted. It returns
 //! to the host from the third:
@@ -46,8 +46,9 @@
 //! syscall, or the setting, starts a new series of calls with it: what is proved of a series
 //! holds from any fit record and place. `examples/host.rs` is such a host.
 //!
-//! Every direct syscall returns unless the host says otherwise:
-//! [`Program::never_return`].
+//! Every direct syscall returns unless the host says otherwise, by
+//! [`Program::never_return`]; and a filter may use every listed encoding unless
+//! the host says, by [`Program::profile`], that it is for a smaller processor.
 //!
 //! Programs, settings, records and enums will gain parts; hosts that make the
 //! first three as shown here, and match enums with `_` last, stay right.
@@ -95,8 +96,13 @@ pub const fn syscall_bit(n: u32) -> u64 {
     }
 }
 
+/// The profile that every program begins with: all listed encodings.
+pub const PROFILE_FULL: u32 = 0;
+/// The profile of an ARMv6-M core: no encoding of 32 bits, no cbz and no cbnz.
+pub const PROFILE_SMALL: u32 = 1;
+
 /// The version of these calls: 65536 * major + 256 * minor + patch.
-pub const VERSION: u32 = 0x00_03_00;
+pub const VERSION: u32 = 0x00_04_00;
 
 /// The version of the archive that is linked, to be held against [`VERSION`]
 /// before any other call.

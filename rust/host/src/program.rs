@@ -4,6 +4,7 @@ use crate::raw;
 use crate::record::{Base, Record};
 use crate::refusal::{verdict, Refusal};
 use crate::stop::Stopped;
+use crate::PROFILE_FULL;
 
 /// What the reader says of a bundle.
 #[derive(Clone, Copy, Debug, PartialEq, Eq)]
@@ -36,19 +37,24 @@ impl Reading {
     }
 }
 
-/// A page, which is code up to its count, and the syscalls that never return.
+/// A page, which is code up to its count, the syscalls that never return, and the
+/// profile of the processor that it is for.
 #[derive(Clone, Copy, Debug)]
 pub struct Program<'a> {
     page: &'a [u8],
     never_return: u64,
+    profile: u32,
 }
 
 impl<'a> Program<'a> {
-    /// The program of a page, where every direct syscall returns. Any bytes
-    /// will do here; calls refuse them.
+    /// The program of a page, where every direct syscall returns, in the full
+    /// profile. Any bytes will do here; calls refuse them.
     pub fn new(page: &'a [u8]) -> Program<'a> {
-        let never_return = 0;
-        Program { page, never_return }
+        Program {
+            page,
+            never_return: 0,
+            profile: PROFILE_FULL,
+        }
     }
 
     /// The same where the direct syscalls of a set never return, each by its
@@ -72,16 +78,35 @@ impl<'a> Program<'a> {
         }
     }
 
-    /// How many bundles are code. Refusal: 1.
+    /// The same in a profile: [`PROFILE_FULL`] or
+    /// [`PROFILE_SMALL`](crate::PROFILE_SMALL). A bundle with an encoding that the
+    /// profile lacks is bad. Any number will do here; calls refuse an unknown one.
+    ///
+    /// ```
+    /// use marshbodkin::{Program, Refusal, PROFILE_SMALL};
+    ///
+    /// let program = Program::new(&[0x41, 0xF2, 0x34, 0x20, 0x00, 0xBF, 0x00, 0xDF]); // movw
+    /// assert_eq!(program.count(), Ok(2));
+    /// assert_eq!(program.profile(PROFILE_SMALL).count(), Ok(0));
+    /// assert_eq!(program.profile(2).count(), Err(Refusal::UnknownProfile));
+    /// ```
+    #[must_use]
+    pub fn profile(self, number: u32) -> Program<'a> {
+        let profile = number;
+        Program { profile, ..self }
+    }
+
+    /// How many bundles are code. Refusals: 18, 1.
     pub fn count(&self) -> Result<u32, Refusal> {
-        let (code, count) = raw::count(self.page, self.never_return);
+        let (code, count) = raw::count(self.page, self.never_return, self.profile);
         verdict(code)?;
         Ok(count)
     }
 
-    /// Reads a bundle. Refusals: 1, 8.
+    /// Reads a bundle. Refusals: 18, 1, 8.
     pub fn read_bundle(&self, bundle: u32) -> Result<Reading, Refusal> {
-        let (code, kind, largest) = raw::read_bundle(self.page, self.never_return, bundle);
+        let (code, kind, largest) =
+            raw::read_bundle(self.page, self.never_return, self.profile, bundle);
         verdict(code)?;
         Ok(Reading::of(kind, largest))
     }
@@ -117,25 +142,41 @@ impl<'a> Setting<'a> {
     }
 
     /// Runs from a record until the budget of steps is spent, a service is
-    /// for the host, or a fault. Refusals: 1, 2, 3, 255, 4, 5; RAM and record
-    /// then stay as they were.
+    /// for the host, or a fault. Refusals: 18, 1, 2, 3, 255, 4, 5; RAM and
+    /// record then stay as they were.
     pub fn run(
         &self,
         ram: &mut [u8],
         record: &mut Record,
         budget: u32,
     ) -> Result<Stopped, Refusal> {
-        let Program { page, never_return } = self.program;
+        let Program {
+            page,
+            never_return,
+            profile,
+        } = self.program;
         crossing(record, |bytes| {
-            raw::run(page, never_return, ram, self.external, bytes, budget)
+            raw::run(
+                page,
+                never_return,
+                profile,
+                ram,
+                self.external,
+                bytes,
+                budget,
+            )
         })
     }
 
     /// One step: a run with budget 1.
     pub fn step(&self, ram: &mut [u8], record: &mut Record) -> Result<Stopped, Refusal> {
-        let Program { page, never_return } = self.program;
+        let Program {
+            page,
+            never_return,
+            profile,
+        } = self.program;
         crossing(record, |bytes| {
-            raw::step(page, never_return, ram, self.external, bytes)
+            raw::step(page, never_return, profile, ram, self.external, bytes)
         })
     }
 }

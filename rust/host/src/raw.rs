@@ -2,8 +2,10 @@
 //!
 //! A record crosses as 44 bytes. Each call but [`exit`] and [`version`] answers
 //! 0 (accepted) or the number of a refusal; a step and a run also 255, where bytes
-//! hold no record. Bit n of `never_return` says that direct syscall n never returns.
-//! This is the one module with `unsafe`.
+//! hold no record. Bit n of `never_return` says that direct syscall n never returns;
+//! `profile` is [`PROFILE_FULL`](crate::PROFILE_FULL) or
+//! [`PROFILE_SMALL`](crate::PROFILE_SMALL), and any other number is refused. This is
+//! the one module with `unsafe`.
 
 use marshbodkin_sys::{
     mb_raw_count, mb_raw_exit, mb_raw_fresh, mb_raw_load, mb_raw_read_bundle, mb_raw_run,
@@ -54,15 +56,16 @@ pub struct ExitNumbers {
 // are the functions' own, as `tests/header.sh` sees to.
 
 /// The answer and the count.
-pub fn count(page: &[u8], never_return: u64) -> (u32, u32) {
+pub fn count(page: &[u8], never_return: u64, profile: u32) -> (u32, u32) {
     let mut count = 0;
     // SAFETY: a slice and a local, as above.
-    let code = unsafe { mb_raw_count(page.as_ptr(), page.len(), never_return, &mut count) };
+    let code =
+        unsafe { mb_raw_count(page.as_ptr(), page.len(), never_return, profile, &mut count) };
     (code, count)
 }
 
 /// The answer, the kind (0 bad, 1 no successor, 2 the largest), the largest.
-pub fn read_bundle(page: &[u8], never_return: u64, k: u32) -> (u32, u32, u32) {
+pub fn read_bundle(page: &[u8], never_return: u64, profile: u32, k: u32) -> (u32, u32, u32) {
     let (mut kind, mut largest) = (0, 0);
     // SAFETY: a slice and two locals, as above.
     let code = unsafe {
@@ -70,6 +73,7 @@ pub fn read_bundle(page: &[u8], never_return: u64, k: u32) -> (u32, u32, u32) {
             page.as_ptr(),
             page.len(),
             never_return,
+            profile,
             k,
             &mut kind,
             &mut largest,
@@ -116,6 +120,7 @@ pub fn load(stored: &[u8], record: &mut [u8]) -> u32 {
 pub fn run(
     page: &[u8],
     never_return: u64,
+    profile: u32,
     ram: &mut [u8],
     external: &[u8],
     record: &mut [u8],
@@ -128,6 +133,7 @@ pub fn run(
             page.as_ptr(),
             page.len(),
             never_return,
+            profile,
             ram.as_mut_ptr(),
             ram.len(),
             external.as_ptr(),
@@ -148,6 +154,7 @@ pub fn run(
 pub fn step(
     page: &[u8],
     never_return: u64,
+    profile: u32,
     ram: &mut [u8],
     external: &[u8],
     record: &mut [u8],
@@ -159,6 +166,7 @@ pub fn step(
             page.as_ptr(),
             page.len(),
             never_return,
+            profile,
             ram.as_mut_ptr(),
             ram.len(),
             external.as_ptr(),

@@ -5,7 +5,8 @@ use std::fmt;
 
 use crate::words;
 
-/// Why a call is refused: 01's refusals, and the library's own.
+/// Why a call is refused: 01's refusals, that of an unknown profile, and the
+/// library's own.
 #[derive(Clone, Copy, Debug, PartialEq, Eq)]
 #[non_exhaustive]
 pub enum Refusal {
@@ -27,6 +28,9 @@ pub enum Refusal {
     FormRange {},
     /// 8: the asked bundle isn't in the page.
     NoSuchBundle,
+    /// 18, before all others: the number given to
+    /// [`Program::profile`](crate::Program::profile) is no profile's.
+    UnknownProfile,
     /// 255, the library's own: the bytes hold no record. Of what a host can
     /// write, only [`Base::Unknown`](crate::Base::Unknown) brings it.
     NoRecord,
@@ -47,6 +51,7 @@ impl Refusal {
             6 => Refusal::FormLength,
             7 => Refusal::FormRange {},
             8 => Refusal::NoSuchBundle,
+            18 => Refusal::UnknownProfile,
             255 => Refusal::NoRecord,
             unknown => Refusal::Unknown(unknown),
         })
@@ -63,6 +68,7 @@ impl Refusal {
             Refusal::FormLength => 6,
             Refusal::FormRange {} => 7,
             Refusal::NoSuchBundle => 8,
+            Refusal::UnknownProfile => 18,
             Refusal::NoRecord => 255,
             Refusal::Unknown(number) => number,
         }

@@ -15,6 +15,7 @@ pub fn refusal(number: u32) -> &'static str {
         6 => "stored form, or the room lent for it, is not 44 bytes",
         7 => "stored or given record is out of range",
         8 => "asked bundle is not in the page",
+        18 => "unknown profile",
         255 => "bytes hold no record",
         _ => UNKNOWN,
     }

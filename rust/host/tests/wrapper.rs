@@ -2,7 +2,7 @@
 
 use marshbodkin::{
     raw, syscall_bit, Base, Exit, Fault, Flags, Program, Reading, Record, Refusal, Setting, Stop,
-    Stopped, RAM_LENGTH, RECORD_LENGTH,
+    Stopped, PROFILE_FULL, PROFILE_SMALL, RAM_LENGTH, RECORD_LENGTH,
 };
 
 /// 01's printed page: four bundles, of which three are counted.
@@ -11,6 +11,11 @@ const PRINTED: &[u16] = &[
 ];
 /// A word store of r0 by the base, and a return.
 const STORE: &[u16] = &[0xF8C9, 0x0000, 0x2001, 0xDF00];
+/// A return; then what the small profile lacks, movw or cbnz, and another return.
+const MOVW: &[u16] = &[0xBF00, 0xDF00, 0xF241, 0x2034, 0xBF00, 0xDF00];
+const CBNZ: &[u16] = &[0xBF00, 0xDF00, 0xB900, 0xBF00, 0xBF00, 0xDF00];
+/// Numbers of no profile; of some a part is the number of one.
+const UNKNOWN_PROFILES: [u32; 6] = [2, 255, 256, 0x1_0001, 0x8000_0000, u32::MAX];
 
 /// Why a call stopped and after how many steps, or why it was refused.
 type Outcome = Result<(Stop, u32), Refusal>;
@@ -226,6 +231,62 @@ fn places_at_syscalls_that_never_return() {
 }
 
 #[test]
+fn counts_of_profiles() {
+    let behind_a_terminator: &[u16] = &[0xDF00, 0xB100]; // cbz
+    let cases = [
+        (PRINTED, 3, 3),
+        (MOVW, 3, 1),
+        (CBNZ, 3, 1),
+        (behind_a_terminator, 1, 0),
+    ];
+    for (halfwords, full, small) in cases {
+        let page = page_of(halfwords);
+        let program = Program::new(&page);
+        assert_eq!(program.count(), Ok(full));
+        assert_eq!(program.profile(PROFILE_SMALL).count(), Ok(small));
+        let back = program.profile(PROFILE_SMALL).profile(PROFILE_FULL);
+        assert_eq!(back.count(), Ok(full));
+    }
+}
+
+/// What the small profile lacks is bad, so that no place in it is fit.
+#[test]
+fn places_of_profiles() {
+    for (halfwords, steps) in [(MOVW, 3), (CBNZ, 4)] {
+        let page = page_of(halfwords);
+        let program = Program::new(&page);
+        let small = program.profile(PROFILE_SMALL);
+        assert_eq!(program.read_bundle(1), Ok(Reading::Largest(2)));
+        assert_eq!(small.read_bundle(1), Ok(Reading::Bad));
+        assert_eq!(small.read_bundle(2), Ok(Reading::Nothing));
+
+        let small = Setting::new(small);
+        let mut record = Record::default();
+        let ran = small.run(&mut filled_ram(), &mut record, 9);
+        assert_eq!(outcome(ran), returned(2));
+        record.place = 2;
+        check_refused(Refusal::UnfitPlace, small, RAM_LENGTH, record);
+        assert_eq!(run_from(halfwords, &mut record, 9), returned(steps));
+    }
+}
+
+/// Validation has no part in it; steps and runs are refused further below.
+#[test]
+fn unknown_profiles() {
+    let page = page_of(PRINTED);
+    for number in UNKNOWN_PROFILES {
+        for page in [&page[..], &page[1..]] {
+            let unknown = Program::new(page).profile(number);
+            assert_eq!(unknown.count(), Err(Refusal::UnknownProfile));
+            assert_eq!(unknown.read_bundle(0), Err(Refusal::UnknownProfile));
+            assert_eq!(unknown.read_bundle(4), Err(Refusal::UnknownProfile));
+            let setting = Setting::new(unknown);
+            assert_eq!(setting.validate(0x10000), Ok(Base::Ram(0)));
+        }
+    }
+}
+
+#[test]
 fn faults() {
     let with = |base, sp| Record {
         base,
@@ -285,7 +346,8 @@ fn check_refused(refusal: Refusal, setting: Setting, ram: usize, given: Record) 
     assert!(lent == filled_ram());
 }
 
-/// Everything wrong at first, and then mended part by part.
+/// Everything wrong at first, and then mended part by part; an unknown profile is
+/// refused before each.
 #[test]
 fn refused_steps_and_runs() {
     let (page, external) = (page_of(PRINTED), [0; 256]);
@@ -296,15 +358,31 @@ fn refused_steps_and_runs() {
     let unfit = Record { sp: 0, ..far };
     let base = Base::Unknown { kind: 3, offset: 0 };
     let no_record = Record { base, ..unfit };
-    let (odd, short) = (alone(&page[1..]).external(&external[1..]), RAM_LENGTH - 1);
-    let odd_data = alone(&page).external(&external[1..]);
-    let setting = alone(&page).external(&external);
-    check_refused(Refusal::PageLength, odd, short, no_record);
-    check_refused(Refusal::RamLength, odd_data, short, no_record);
-    check_refused(Refusal::ExternalLength, odd_data, RAM_LENGTH, no_record);
-    check_refused(Refusal::NoRecord, setting, RAM_LENGTH, no_record);
-    check_refused(Refusal::UnfitRecord, setting, RAM_LENGTH, unfit);
-    check_refused(Refusal::UnfitPlace, setting, RAM_LENGTH, far);
+    let whole = Program::new(&page);
+    let (odd, odd_data) = (Program::new(&page[1..]), &external[1..]);
+    let short = RAM_LENGTH - 1;
+    let rows = [
+        (Refusal::PageLength, odd, odd_data, short, no_record),
+        (Refusal::RamLength, whole, odd_data, short, no_record),
+        (
+            Refusal::ExternalLength,
+            whole,
+            odd_data,
+            RAM_LENGTH,
+            no_record,
+        ),
+        (Refusal::NoRecord, whole, &external, RAM_LENGTH, no_record),
+        (Refusal::UnfitRecord, whole, &external, RAM_LENGTH, unfit),
+        (Refusal::UnfitPlace, whole, &external, RAM_LENGTH, far),
+    ];
+    for (refusal, program, external, ram, record) in rows {
+        let setting = |program| Setting::new(program).external(external);
+        check_refused(refusal, setting(program), ram, record);
+        for number in UNKNOWN_PROFILES {
+            let unknown = setting(program.profile(number));
+            check_refused(Refusal::UnknownProfile, unknown, ram, record);
+        }
+    }
 }
 
 #[test]
@@ -371,10 +449,12 @@ fn versions() {
     assert_eq!(marshbodkin::version(), marshbodkin::VERSION);
 }
 
-/// Bytes that hold no record meet 255 in a step and a run, after 1, 2 and 3;
-/// stored they are out of range, and nothing changes.
+/// Bytes that hold no record.
+const NO_RECORD: [u8; RECORD_LENGTH] = [0xFF; RECORD_LENGTH];
+
+/// They meet 255 in a step and a run, after 18, 1, 2 and 3, and nothing changes.
 #[test]
-fn no_record() {
+fn no_record_in_steps_and_runs() {
     let refused = |code| raw::Answer {
         code,
         kind: 5,
@@ -382,24 +462,38 @@ fn no_record() {
         literal: 0,
         steps: 0,
     };
-    let mut ram = filled_ram();
-    let mut bytes = [0xFF; RECORD_LENGTH];
-    for (page, code) in [(&[0][..], 1), (&[], 255)] {
-        let ran = raw::run(page, 0, &mut ram, &[], &mut bytes, 9);
-        assert_eq!(ran, refused(code));
-        let stepped = raw::step(page, u64::MAX, &mut ram, &[], &mut bytes);
-        assert_eq!(stepped, refused(code));
+    let (odd, short): (&[u8], usize) = (&[0], RAM_LENGTH - 1);
+    let rows = [
+        (18, 2, odd, short, odd),
+        (18, u32::MAX, &[], RAM_LENGTH, &[]),
+        (1, PROFILE_SMALL, odd, short, odd),
+        (2, PROFILE_FULL, &[], short, odd),
+        (3, PROFILE_SMALL, &[], RAM_LENGTH, odd),
+        (255, PROFILE_FULL, &[], RAM_LENGTH, &[]),
+        (255, PROFILE_SMALL, &[], RAM_LENGTH, &[]),
+    ];
+    let (mut ram, mut bytes) = (filled_ram(), NO_RECORD);
+    for (code, profile, page, length, external) in rows {
+        let ram = &mut ram[..length];
+        let ran = raw::run(page, 0, profile, ram, external, &mut bytes, 9);
+        assert_eq!((ran, bytes), (refused(code), NO_RECORD));
+        let stepped = raw::step(page, u64::MAX, profile, ram, external, &mut bytes);
+        assert_eq!((stepped, bytes), (refused(code), NO_RECORD));
     }
-    let short = raw::run(&[], 0, &mut ram[1..], &[], &mut bytes, 9);
-    assert_eq!(short, refused(2));
-    assert_eq!(raw::run(&[], 0, &mut ram, &[0], &mut bytes, 9), refused(3));
+    assert!(ram == filled_ram());
+}
+
+/// Stored they are out of range, and nothing changes.
+#[test]
+fn no_record_stored() {
+    let (mut ram, mut bytes) = (filled_ram(), NO_RECORD);
     assert_eq!(raw::store(&bytes, &mut ram), 6);
     assert_eq!(raw::store(&bytes, &mut ram[..RECORD_LENGTH]), 7);
     assert_eq!(raw::load(&[], &mut bytes[1..]), 6);
     assert_eq!(raw::load(&[], &mut bytes), 6);
-    assert_eq!(raw::load(&[0xFF; RECORD_LENGTH], &mut bytes[1..]), 6);
+    assert_eq!(raw::load(&NO_RECORD, &mut bytes[1..]), 6);
     assert_eq!(raw::load(&[0xFE; RECORD_LENGTH], &mut bytes), 7);
     assert_eq!(raw::fresh(&mut bytes[1..]), 6);
-    assert_eq!(bytes, [0xFF; RECORD_LENGTH]);
+    assert_eq!(bytes, NO_RECORD);
     assert!(ram == filled_ram());
 }

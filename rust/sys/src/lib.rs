@@ -19,11 +19,12 @@
 // compares them with the source.
 extern "C" {
     /// The count of a page. Here and below, bit n of `never_return` says that
-    /// direct syscall n never returns.
+    /// direct syscall n never returns, and `profile` is 0 full or 1 small.
     pub fn mb_raw_count(
         page: *const u8,
         page_length: usize,
         never_return: u64,
+        profile: u32,
         count: *mut u32,
     ) -> u32;
 
@@ -32,6 +33,7 @@ extern "C" {
         page: *const u8,
         page_length: usize,
         never_return: u64,
+        profile: u32,
         k: u32,
         kind: *mut u32,
         largest: *mut u32,
@@ -71,6 +73,7 @@ extern "C" {
         page: *const u8,
         page_length: usize,
         never_return: u64,
+        profile: u32,
         ram: *mut u8,
         ram_length: usize,
         external: *const u8,
@@ -89,6 +92,7 @@ extern "C" {
         page: *const u8,
         page_length: usize,
         never_return: u64,
+        profile: u32,
         ram: *mut u8,
         ram_length: usize,
         external: *const u8,
