@@ -30,7 +30,9 @@ echo "deliberate mistakes found"
 
 ./target/release/library ${1+"$1"}
 for name in lt-from-n first-successor count-one-less base-one-off place-128 imm15-unshifted \
-    set-one-off set-complement count-without-set run-without-set last-moves-on; do
+    set-one-off set-complement count-without-set run-without-set last-moves-on \
+    small-with-cbnz small-with-movw full-behind-terminator profile-after-length profile-2-small \
+    count-without-profile run-without-profile; do
     must_differ ./target/release/library --break "$name" ${1+"$1"}
 done
 echo "deliberate mistakes found"

@@ -1,9 +1,13 @@
 // How many 16-bit halfwords and 32-bit pairs are listed, by brute force from the text of the build paper's section
-// "Listed encodings". It shares nothing with the rows in crates/isa: the theorems number16 and number32 there must
-// give the same numbers.
+// "Listed encodings", and how many of them in the small profile of change request 12. It shares nothing with the rows in
+// crates/isa: the theorems number16, number32, small-number16 and small-number32 there must give the same numbers.
 
 fn opens32(h: u32) -> bool {
     matches!(h >> 11, 0b11101 | 0b11110 | 0b11111)
+}
+
+fn cbz_cbnz(h: u32) -> bool {
+    matches!(h >> 8, 0xB1 | 0xB3 | 0xB9 | 0xBB)
 }
 
 fn listed16(h: u32) -> bool {
@@ -16,7 +20,6 @@ fn listed16(h: u32) -> bool {
     let add_from_sp = h >> 11 == 0b10101;
     let extension = top == 0b10110010;
     let nop = h == 0xBF00;
-    let cbz_cbnz = matches!(top, 0xB1 | 0xB3 | 0xB9 | 0xBB);
     let branch_if = h >> 12 == 0b1101 && top & 15 <= 13;
     let branch = h >> 11 == 0b11100;
     let service = top == 0xDF && !(0xE9..=0xEF).contains(&low);
@@ -29,7 +32,7 @@ fn listed16(h: u32) -> bool {
         add_from_sp,
         extension,
         nop,
-        cbz_cbnz,
+        cbz_cbnz(h),
         branch_if,
         branch,
         service,
@@ -55,15 +58,30 @@ fn listed32(first: u32, second: u32) -> bool {
     access || movw_movt || division
 }
 
-fn main() {
+// "no 32-bit instruction of our list, no cbz or cbnz"; "the rest is unchanged"
+
+fn small16(h: u32) -> bool {
+    listed16(h) && !cbz_cbnz(h)
+}
+
+fn small32(_first: u32, _second: u32) -> bool {
+    false
+}
+
+fn print_numbers(name: &str, is16: fn(u32) -> bool, is32: fn(u32, u32) -> bool) {
     let halfwords = 0..0x1_0000u32;
-    let narrow = halfwords.clone().filter(|&h| !opens32(h) && listed16(h)).count();
-    assert!(!halfwords.clone().any(|h| opens32(h) && listed16(h)));
+    let narrow = halfwords.clone().filter(|&h| !opens32(h) && is16(h)).count();
+    assert!(!halfwords.clone().any(|h| opens32(h) && is16(h)));
     let wide: usize = halfwords
         .clone()
         .filter(|&first| opens32(first))
-        .map(|first| halfwords.clone().filter(|&second| listed32(first, second)).count())
+        .map(|first| halfwords.clone().filter(|&second| is32(first, second)).count())
         .sum();
-    println!("listed 16: {narrow}");
-    println!("listed 32: {wide}");
+    println!("{name} 16: {narrow}");
+    println!("{name} 32: {wide}");
+}
+
+fn main() {
+    print_numbers("listed", listed16, listed32);
+    print_numbers("small", small16, small32);
 }

@@ -1,15 +1,18 @@
 //! Deliberate mistakes: a comparison that does not find them is worth nothing.
 
 use crate::second::arith::{condition_passed, Flags};
-use crate::second::count::{count, successors, Reading};
+use crate::second::count::{
+    count, greatest_closed, largest, starts_with_terminator, successors, Reading,
+};
 use crate::second::exits::{exit_of, Exit};
 use crate::second::memory::validate;
-use crate::second::page::{NeverReturn, Page};
+use crate::second::page::{Code, NeverReturn, Page};
+use crate::second::profile::{Profile, SMALL};
 use crate::second::record::{Base, Record, LAST_PLACE};
 use crate::second::rules::Rules;
 
 /// Each mistake's name, and the rules with it.
-pub const MISTAKES: [(&str, Rules); 11] = [
+pub const MISTAKES: [(&str, Rules); 18] = [
     (
         "lt-from-n",
         Rules {
@@ -50,14 +53,14 @@ pub const MISTAKES: [(&str, Rules); 11] = [
     (
         "count-without-set",
         Rules {
-            counted: |_| NeverReturn::NONE,
+            counted: without_set,
             ..Rules::RIGHT
         },
     ),
     (
         "run-without-set",
         Rules {
-            run: |_| NeverReturn::NONE,
+            run: without_set,
             ..Rules::RIGHT
         },
     ),
@@ -65,6 +68,64 @@ pub const MISTAKES: [(&str, Rules); 11] = [
         "last-moves-on",
         Rules {
             stays: last_moves_on,
+            ..Rules::RIGHT
+        },
+    ),
+    (
+        "small-with-cbnz",
+        Rules {
+            counted: with_cbnz,
+            run: with_cbnz,
+            ..Rules::RIGHT
+        },
+    ),
+    (
+        "small-with-movw",
+        Rules {
+            counted: with_movw,
+            run: with_movw,
+            ..Rules::RIGHT
+        },
+    ),
+    (
+        "profile-after-length",
+        Rules {
+            counted: length_first,
+            run: length_first,
+            ..Rules::RIGHT
+        },
+    ),
+    (
+        "profile-2-small",
+        Rules {
+            counted: two_as_small,
+            run: two_as_small,
+            ..Rules::RIGHT
+        },
+    ),
+    (
+        "count-without-profile",
+        Rules {
+            counted: small_as_full,
+            ..Rules::RIGHT
+        },
+    ),
+    (
+        "run-without-profile",
+        Rules {
+            run: small_as_full,
+            ..Rules::RIGHT
+        },
+    ),
+    (
+        "full-behind-terminator",
+        Rules {
+            reading: |page, bundle| largest(full_behind_terminator(page, bundle)),
+            count: |page| {
+                greatest_closed(page.bundles(), |bundle| {
+                    full_behind_terminator(page, bundle)
+                })
+            },
             ..Rules::RIGHT
         },
     ),
@@ -122,19 +183,85 @@ fn count_one_less(page: Page) -> usize {
     }
 }
 
+/// The page with a set that is not the given one.
+fn with_set(code: Code, set: NeverReturn) -> Result<Page, u8> {
+    Page::new(code).map(|page| page.with(set))
+}
+
 /// Bit n + 1 stands for syscall n.
-fn one_off(set: NeverReturn) -> NeverReturn {
-    NeverReturn(set.0 >> 1)
+fn one_off(code: Code) -> Result<Page, u8> {
+    with_set(code, NeverReturn(code.never_return.0 >> 1))
 }
 
 /// The set holds those that return.
-fn complement(set: NeverReturn) -> NeverReturn {
-    NeverReturn(!set.0)
+fn complement(code: Code) -> Result<Page, u8> {
+    with_set(code, NeverReturn(!code.never_return.0))
+}
+
+/// The set is not looked at.
+fn without_set(code: Code) -> Result<Page, u8> {
+    with_set(code, NeverReturn::NONE)
 }
 
 /// The place moves on at every direct syscall, though the count ends there.
 fn last_moves_on(exit: Exit, _: NeverReturn) -> bool {
     exit.is_terminator(NeverReturn::NONE)
+}
+
+/// The page with another profile in the small one's place.
+fn with_small(code: Code, small: Profile) -> Result<Page, u8> {
+    let page = Page::new(code)?;
+    Ok(match code.profile {
+        SMALL => page.under(small),
+        _ => page,
+    })
+}
+
+/// The small profile has cbnz.
+fn with_cbnz(code: Code) -> Result<Page, u8> {
+    let small = Profile {
+        has_narrow: |half| half & 0xFD00 != 0xB100,
+        ..Profile::SMALL
+    };
+    with_small(code, small)
+}
+
+/// The small profile has movw.
+fn with_movw(code: Code) -> Result<Page, u8> {
+    let small = Profile {
+        has_wide: |first, _| first & 0xFBF0 == 0xF240,
+        ..Profile::SMALL
+    };
+    with_small(code, small)
+}
+
+/// The page's length is tested before the profile.
+fn length_first(code: Code) -> Result<Page, u8> {
+    match code.has_page_length() {
+        true => Page::new(code),
+        false => Err(1),
+    }
+}
+
+/// Number 2 stands for the small profile too.
+fn two_as_small(code: Code) -> Result<Page, u8> {
+    Page::new(match code.profile {
+        2 => code.under(SMALL),
+        _ => code,
+    })
+}
+
+/// The profile is not looked at, but for its number.
+fn small_as_full(code: Code) -> Result<Page, u8> {
+    with_small(code, Profile::FULL)
+}
+
+/// Behind a terminator any encoding of 01 will do.
+fn full_behind_terminator(page: Page, bundle: usize) -> Option<Vec<usize>> {
+    match starts_with_terminator(page, bundle) {
+        Some(true) => successors(page.under(Profile::FULL), bundle),
+        _ => successors(page, bundle),
+    }
 }
 
 /// A RAM base lies one byte further.

@@ -145,6 +145,11 @@ where
     found.map(|row| row.name)
 }
 
+/// True for cbz and cbnz.
+pub fn is_compare_branch(half: u16) -> bool {
+    matches!(half >> 8, 0xB1 | 0xB3 | 0xB9 | 0xBB)
+}
+
 /// True if a first halfword belongs to a 32-bit row.
 pub fn opens_a_row(half: u16) -> bool {
     let bits = u32::from(half) << 16;

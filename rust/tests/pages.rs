@@ -3,7 +3,7 @@
 
 use std::collections::BTreeMap;
 
-use marshbodkin_check::compare::sets;
+use marshbodkin_check::compare::codes;
 use marshbodkin_check::mistakes;
 use marshbodkin_check::random::{self, Random, DEFAULT_SEED};
 use marshbodkin_check::second::arith::{condition_passed, Flags};
@@ -12,6 +12,7 @@ use marshbodkin_check::second::decode::{narrow, opens_wide, wide, DataOp, Instru
 use marshbodkin_check::second::machine::{step, Stop};
 use marshbodkin_check::second::memory::RAM_SIZE;
 use marshbodkin_check::second::page::{Code, Page};
+use marshbodkin_check::second::profile::{FULL, SMALL};
 use marshbodkin_check::second::record::Record;
 use marshbodkin_check::second::rules::Rules;
 use marshbodkin_check::second::text;
@@ -27,6 +28,11 @@ fn matches(row: &str, bits: u32) -> bool {
     })
 }
 
+/// The empty page under a profile, to read halfwords by.
+fn empty(profile: u32) -> Page<'static> {
+    Page::new(Code::plain(&[]).under(profile)).expect("a page")
+}
+
 #[test]
 fn narrow_decoder_matches_the_rows() {
     let rows = [
@@ -38,14 +44,18 @@ fn narrow_decoder_matches_the_rows() {
         "10101xxxxxxxxxxx",
         "10110010xxxxxxxx",
         "1011111100000000",
-        "1011x0x1xxxxxxxx",
         "1101xxxxxxxxxxxx",
         "11100xxxxxxxxxxx",
     ];
     for half in 0..=u16::MAX {
+        let bits = u32::from(half);
         let bad = matches!(half, 0xDE00..=0xDEFF | 0xDFE9..=0xDFEF);
-        let listed = !bad && rows.iter().any(|row| matches(row, u32::from(half)));
-        assert_eq!(narrow(half).is_some(), listed, "{half:04X}");
+        let small = !bad && rows.iter().any(|row| matches(row, bits));
+        let full = small || matches("1011x0x1xxxxxxxx", bits);
+        assert_eq!(narrow(half).is_some(), full, "{half:04X}");
+        assert_eq!(empty(FULL).narrow(half), narrow(half), "{half:04X}");
+        let read = empty(SMALL).narrow(half);
+        assert_eq!(read, narrow(half).filter(|_| small), "{half:04X}");
     }
 }
 
@@ -66,8 +76,11 @@ fn wide_decoder_matches_the_rows() {
         for second in seconds.into_iter().chain([0xF0E0, 0xE0F0, 0xFFFF]) {
             let bits = u32::from(first) << 16 | u32::from(second);
             let listed = rows.iter().any(|row| matches(row, bits));
-            assert_eq!(wide(first, second).is_some(), listed, "{bits:08X}");
+            let read = wide(first, second);
+            assert_eq!(read.is_some(), listed, "{bits:08X}");
             assert!(!listed || opens_wide(first));
+            assert_eq!(empty(FULL).wide(first, second), read, "{bits:08X}");
+            assert_eq!(empty(SMALL).wide(first, second), None, "{bits:08X}");
         }
     }
 }
@@ -88,7 +101,7 @@ fn count_equals_the_single_pass() {
     let mut random = Random::new(DEFAULT_SEED);
     for number in 0..3000 {
         let bytes = random::page(DEFAULT_SEED, number);
-        if let Some(page) = Page::new(Code::new(&bytes, sets::any(&mut random))) {
+        if let Ok(page) = Page::new(codes::any(&mut random, &bytes)) {
             assert_eq!(count(page), single_pass(page), "page {number}");
         }
     }
@@ -138,7 +151,7 @@ fn at_place(page: Page, record: &Record) -> Option<Instruction> {
 /// Counts what the first steps of a page execute.
 fn trace(bytes: &[u8], seen: &mut BTreeMap<String, u32>) {
     let code = Code::plain(bytes);
-    let Some(page) = Page::new(code) else { return };
+    let Ok(page) = Page::new(code) else { return };
     let (mut ram, mut record) = (vec![0; RAM_SIZE], Record::fresh());
     for _ in 0..300 {
         let answer = step(code, &mut ram, &[], &record);

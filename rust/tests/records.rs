@@ -2,11 +2,11 @@
 //! program's: field by field over steps, and in the stored form.
 
 use marshbodkin::{self as wrapper, Program, Setting};
-use marshbodkin_check::compare::{cases, records, sets};
+use marshbodkin_check::compare::codes::{self, UNKNOWN};
+use marshbodkin_check::compare::{cases, records};
 use marshbodkin_check::random::{Random, DEFAULT_SEED};
 use marshbodkin_check::second::machine::{step, Stop};
 use marshbodkin_check::second::memory::RAM_SIZE;
-use marshbodkin_check::second::page::Code;
 use marshbodkin_check::second::record::{stored_bytes, Base, Record, MOST_EXTERNAL};
 
 const STEPS: u64 = 20_000;
@@ -54,11 +54,15 @@ fn the_same_fields_after_a_step() {
         if number % 16 == 0 {
             case.record = records::unfit(&mut random, &case.record, external.len());
         }
-        let set = sets::any(&mut random);
-        let code = Code::new(&case.page, set);
+        let mut code = codes::any(&mut random, &case.page);
+        if number % 64 == 1 {
+            code.profile = UNKNOWN[number as usize / 64 % UNKNOWN.len()];
+        }
         let expected = step(code, &mut other, &external, &case.record);
         let mut record = wrapped(&case.record);
-        let program = Program::new(&case.page).never_return(set.0);
+        let program = Program::new(&case.page)
+            .never_return(code.never_return.0)
+            .profile(code.profile);
         let setting = Setting::new(program).external(&external);
         let stopped = setting.step(&mut ram, &mut record);
         let stop = stopped.map(|stopped| stopped.stop);

@@ -111,7 +111,7 @@ fn counts_of_the_shapes() {
             let bundles = (shape.bundles)(number);
             let only = sets::only(number.into());
             let counts = [count(&bundles, only), count(&bundles, NONE)];
-            assert_eq!(counts, [shape.last, shape.goes_on], "{}", shape.name);
+            assert_eq!(counts, shape.counts, "{}", shape.name);
         }
     }
 }

@@ -142,7 +142,7 @@ fn runs(page: &[u8], budget: u32, times: usize) -> Taken {
         || {
             for _ in 0..times {
                 let mut record = stored_bytes(&fresh);
-                let answer = raw::run(black_box(page), 0, &mut ram, &[], &mut record, budget);
+                let answer = raw::run(black_box(page), 0, 0, &mut ram, &[], &mut record, budget);
                 assert_eq!((answer.kind, answer.steps), (0, budget));
             }
         },
@@ -166,7 +166,7 @@ fn counts(pages: &[Vec<u8>], times: usize) -> Taken {
     measure(
         || {
             for page in pages.iter().cycle().take(times) {
-                black_box(raw::count(black_box(page), 0));
+                black_box(raw::count(black_box(page), 0, 0));
             }
         },
         || {

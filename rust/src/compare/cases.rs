@@ -3,7 +3,7 @@
 
 use super::records;
 use crate::assemble::{self as asm, page_bytes, Bundle};
-use crate::names::{Row, NARROW, SERVICES, WIDE, WORDS};
+use crate::names::{self, Row, NARROW, SERVICES, WIDE, WORDS};
 use crate::random::{self, Random};
 use crate::second::decode::{narrow, wide, DataOp, Instruction, Size};
 use crate::second::memory::RAM_SIZE;
@@ -80,7 +80,7 @@ pub fn narrow_half(random: &mut Random, scene: Scene) -> u16 {
             let words = if random.chance(90) { any % left } else { any };
             asm::load_literal(low, words as u16)
         }
-        0xB1 | 0xB3 | 0xB9 | 0xBB => {
+        _ if names::is_compare_branch(half) => {
             let nonzero = (half >> 11) & 1;
             asm::compare_branch(nonzero, low, from, at, target).unwrap_or(half)
         }

@@ -1,10 +1,13 @@
 //! 01's own pages, and the fixed pages for its rules: their counts as 01 gives
-//! them, their bundles, their runs, and the same step by step.
+//! them, their bundles, their runs, and the same step by step; and all that under
+//! the small profile.
 
+use super::calls::counted;
 use super::sides::{Handed, Rams};
 use super::{Comparison, Same};
 use crate::paper::{PaperPage, PAGES};
 use crate::second::page::Code;
+use crate::second::profile::{FULL, SMALL};
 use crate::second::record::{stored_bytes, Record};
 use crate::second::text::BUDGET;
 
@@ -22,23 +25,33 @@ pub fn compare(comparison: &mut Comparison) -> Same {
 /// All that is compared on one page.
 fn one_page(comparison: &mut Comparison, page: &PaperPage) -> Same {
     let bytes = page.bytes();
-    let code = Code::plain(&bytes);
-    let count = comparison.count(code)?;
-    if count as usize != page.count {
-        return Err(format!("both sides count {count}, 01 {}", page.count));
+    for (profile, count) in [(FULL, page.count), (SMALL, small_count(page))] {
+        let code = Code::plain(&bytes).under(profile);
+        counted(comparison, code, count)?;
+        let fresh = stored_bytes(&Record::fresh());
+        let handed = Handed {
+            code,
+            external: &[],
+            record: &fresh,
+            budget: BUDGET,
+        };
+        comparison.run(&handed, &mut Rams::zero())?;
+        step_by_step(comparison, handed.with_budget(1))?;
     }
-    for bundle in 0..=page.bundles.len() as u32 {
-        comparison.read(code, bundle)?;
+    Ok(())
+}
+
+/// The count under the small profile. None of these pages has cbz or cbnz, and
+/// none that has a 32-bit instruction in its code is closed before it.
+fn small_count(page: &PaperPage) -> usize {
+    let has_wide = page.bundles[..page.count]
+        .iter()
+        .any(|&[first, _]| first >= 0xE800);
+    if has_wide {
+        0
+    } else {
+        page.count
     }
-    let fresh = stored_bytes(&Record::fresh());
-    let handed = Handed {
-        code,
-        external: &[],
-        record: &fresh,
-        budget: BUDGET,
-    };
-    comparison.run(&handed, &mut Rams::zero())?;
-    step_by_step(comparison, handed.with_budget(1))
 }
 
 /// Single steps from the fresh record on.

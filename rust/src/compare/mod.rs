@@ -2,16 +2,21 @@
 //! bytes on both sides. No expected answer comes from the library.
 //!
 //! - [`sides`]: each call on both sides, and [`report`] for a difference.
-//! - [`syscalls`], [`exits`], [`forms`], [`reader`], [`steps`], [`refusals`],
-//!   [`pages`], [`fixed`]: the parts. Each stops at its first difference.
-//! - [`records`], [`cases`], [`sets`] and [`shapes`]: what the parts hand over.
+//! - [`profiles`], [`refusals`], [`syscalls`], [`exits`], [`forms`], [`reader`],
+//!   [`steps`], [`pages`], [`fixed`]: the parts. Each stops at its first difference.
+//! - [`records`], [`cases`], [`codes`], [`sets`], [`shapes`] and [`lacking`]: what
+//!   the parts hand over; [`calls`]: what several of them call.
 //! - [`tally`]: what was met; a class that was not is a failure too.
 
+pub mod calls;
 pub mod cases;
+pub mod codes;
 pub mod exits;
 pub mod fixed;
 pub mod forms;
+pub mod lacking;
 pub mod pages;
+pub mod profiles;
 pub mod reader;
 pub mod records;
 pub mod refusals;
@@ -40,15 +45,16 @@ pub struct Comparison {
 /// A part: its name and what it does.
 type Part = (&'static str, fn(&mut Comparison) -> Same);
 
-/// The part that meets most kinds soonest comes first: a mistake is found there
-/// in a moment.
-const PARTS: [Part; 8] = [
+/// The parts that meet most kinds soonest come first: a mistake is found there in
+/// a moment.
+const PARTS: [Part; 9] = [
+    ("profiles", profiles::compare),
+    ("refusals", refusals::compare),
     ("syscalls", syscalls::compare),
     ("exits", exits::compare),
     ("forms", forms::compare),
     ("reader", reader::compare),
     ("steps", steps::compare),
-    ("refusals", refusals::compare),
     ("pages", pages::compare),
     ("fixed", fixed::compare),
 ];

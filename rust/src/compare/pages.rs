@@ -1,18 +1,24 @@
-//! Whole pages: the count, all bundles, runs with several budgets, and series
-//! of steps and runs against one run.
+//! Whole pages: the counts, all bundles, runs with several budgets, and series
+//! of steps and runs against one run. Many pages for the small profile are
+//! rewritten without what it lacks, so that they still do something.
 
+use super::calls::read_all;
 use super::cases::{self, Scene};
+use super::codes::{self, UNKNOWN};
 use super::records;
 use super::report;
 use super::sets;
 use super::sides::{Given, Handed, Rams};
 use super::steps::noise;
-use super::tally::LEAST_PAGES;
+use super::tally::{LEAST_PAGES, SMALL_PROFILE};
 use super::{Comparison, Same};
 use crate::assemble::{self as asm, page_bytes, Bundle};
+use crate::names;
 use crate::random::{self, Random};
+use crate::second::count::count;
 use crate::second::memory::RAM_SIZE;
-use crate::second::page::Code;
+use crate::second::page::{Code, Page};
+use crate::second::profile::SMALL;
 use crate::second::record::{stored_bytes, Record};
 
 const PAGES: u64 = LEAST_PAGES + 1000;
@@ -28,12 +34,16 @@ pub fn compare(comparison: &mut Comparison) -> Same {
     let mut rams = Rams::new(noise(&mut random, RAM_SIZE));
     for number in 0..PAGES {
         let mut random = Random::of_page(comparison.seed, (3 << 41) + number);
-        let page = match number % 4 {
+        let mut page = match number % 4 {
             0 => wild_page(&mut random),
             1 => damaged(&mut random),
             _ => random::page(comparison.seed, number),
         };
-        let code = Code::new(&page, sets::any(&mut random));
+        let profile = codes::either(&mut random);
+        if profile == SMALL && random.chance(80) {
+            rewrite(&mut random, &mut page);
+        }
+        let code = Code::new(&page, sets::any(&mut random)).under(profile);
         let external = &external[..256 * random.below(5)];
         one_page(comparison, &mut random, code, external, &mut rams)
             .map_err(|found| format!("page {number}: {found}"))?;
@@ -77,6 +87,42 @@ fn damaged(random: &mut Random) -> Vec<u8> {
     page
 }
 
+/// Writes what the small profile lacks anew, in a page's counted bundles: a
+/// 32-bit instruction as two others, cbz and cbnz as a branch on a condition to
+/// the same place.
+fn rewrite(random: &mut Random, bytes: &mut [u8]) {
+    let counted = Page::new(Code::plain(bytes)).map_or(0, count);
+    for bundle in bytes[..4 * counted].chunks_exact_mut(4) {
+        let halves = [0, 2].map(|at| u16::from_le_bytes([bundle[at], bundle[at + 1]]));
+        let written = match halves[0] {
+            0xE800.. => [(); 2].map(|()| plain_half(random)),
+            _ => halves.map(|half| rewritten_half(random, half)),
+        };
+        bundle.copy_from_slice(&page_bytes(&[written]));
+    }
+}
+
+/// A half in the place of a 32-bit instruction. It keeps r7, which counts the
+/// turns of loops, and now and then is an access that can fault.
+fn plain_half(random: &mut Random) -> u16 {
+    let (d, words) = (random.field(7), random.field(4));
+    match random.below(30) {
+        0 => asm::stack_load(d, words),
+        1 => asm::stack_store(d, words),
+        2 => asm::add_from_sp(d, words),
+        _ => random::calculation_half(random, d),
+    }
+}
+
+/// A halfword, or a branch on a condition for cbz and cbnz.
+fn rewritten_half(random: &mut Random, half: u16) -> u16 {
+    if !names::is_compare_branch(half) {
+        return half;
+    }
+    let offset = (half >> 9 & 1) << 5 | half >> 3 & 31;
+    0xD000 | random.field(14) << 8 | offset
+}
+
 /// All that is compared on one page.
 fn one_page(
     comparison: &mut Comparison,
@@ -85,10 +131,8 @@ fn one_page(
     external: &[u8],
     rams: &mut Rams,
 ) -> Same {
-    comparison.count(code)?;
-    for bundle in 0..=code.page.len() as u32 / 4 {
-        comparison.read(code, bundle)?;
-    }
+    comparison.counts(code)?;
+    read_all(comparison, code)?;
     let fresh = stored_bytes(&Record::fresh());
     for budget in BUDGETS {
         let handed = Handed {
@@ -150,6 +194,10 @@ fn series(
     }
     given.numbers.steps = steps;
     if given == whole && parts.library == rams.library {
+        if handed.code.profile == SMALL && steps > 1 {
+            let met = "a series of several steps equals one run";
+            comparison.tally.class(SMALL_PROFILE, met);
+        }
         return Ok(());
     }
     let sides = [(&given, &parts.library[..]), (&whole, &rams.library)];
@@ -158,7 +206,7 @@ fn series(
 }
 
 /// A step or a run with a part of the budget; now and then comes a call before
-/// it, with another page and set, that is refused and changes nothing.
+/// it that is refused and changes nothing.
 fn one_call(
     comparison: &mut Comparison,
     random: &mut Random,
@@ -166,15 +214,21 @@ fn one_call(
     rams: &mut Rams,
 ) -> Result<Given, String> {
     if random.chance(10) {
-        let code = Code::new(
-            &own.code.page[..own.code.page.len().min(3)],
-            sets::any(random),
-        );
-        let foreign = Handed { code, ..*own };
-        comparison.run(&foreign, rams)?;
+        let code = refused(comparison, random, own.code);
+        comparison.run(&Handed { code, ..*own }, rams)?;
     }
     match random.pick(&[0, 1, 1, 1, 2, 3, 7, 50, 200]).min(own.budget) {
         1 => comparison.step(&own.with_budget(1), rams),
         budget => comparison.run(&own.with_budget(budget), rams),
     }
+}
+
+/// Another page, set and profile, or an unknown profile.
+fn refused<'a>(comparison: &mut Comparison, random: &mut Random, own: Code<'a>) -> Code<'a> {
+    if random.chance(50) {
+        return codes::any(random, &own.page[..own.page.len().min(3)]);
+    }
+    let unknown = own.under(random.pick(&UNKNOWN));
+    comparison.tally.refused_in_series(own, unknown);
+    unknown
 }

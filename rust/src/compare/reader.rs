@@ -1,12 +1,15 @@
 //! The bundle reader: every halfword in both halves, a dense sample of 32-bit
-//! pairs, literal words of every row, and its refusals, all under any sets.
+//! pairs, literal words of every row, and its refusals, all under any sets and
+//! both profiles.
 
+use super::codes::{self, UNKNOWN};
 use super::sets;
 use super::{Comparison, Same};
 use crate::assemble::{self as asm, page_bytes, Bundle};
 use crate::names::{self, BAD_WORDS, WORDS};
 use crate::random::{self, Random};
 use crate::second::page::{Code, NeverReturn};
+use crate::second::profile::{FULL, SMALL};
 
 /// Pages to read in, by how many bundles they have, and the bundle's number.
 const POSITIONS: [(usize, usize); 6] = [(64, 32), (64, 0), (64, 63), (64, 1), (64, 62), (8, 5)];
@@ -30,10 +33,12 @@ const RANDOM_SECONDS: usize = 32;
 /// The whole part.
 pub fn compare(comparison: &mut Comparison) -> Same {
     let mut random = Random::of_page(comparison.seed, 2 << 40);
-    for (total, bundle) in POSITIONS {
+    for (position, (total, bundle)) in (0..).zip(POSITIONS) {
         let mut sheet = Sheet::of_words(&mut random, total);
         for half in 0..=u16::MAX {
             sheet.never_return = sets::any(&mut random);
+            // By turns, so that every halfword is read under both.
+            sheet.profile = [FULL, SMALL][usize::from((half ^ position) & 1)];
             halfword(comparison, &mut sheet, bundle, half)?;
         }
     }
@@ -42,10 +47,11 @@ pub fn compare(comparison: &mut Comparison) -> Same {
     refusals(comparison, &mut random)
 }
 
-/// A page to put bundles in, and the set that it is read with.
+/// A page to put bundles in, and the set and the profile that it is read under.
 struct Sheet {
     page: Vec<u8>,
     never_return: NeverReturn,
+    profile: u32,
 }
 
 impl Sheet {
@@ -60,6 +66,7 @@ impl Sheet {
         Sheet {
             page: page_bytes(&bundles),
             never_return: sets::any(random),
+            profile: FULL,
         }
     }
 
@@ -70,7 +77,7 @@ impl Sheet {
 
     /// The page's first bundles, to be read.
     fn first(&self, bundles: usize) -> Code<'_> {
-        Code::new(&self.page[..4 * bundles], self.never_return)
+        Code::new(&self.page[..4 * bundles], self.never_return).under(self.profile)
     }
 
     /// The whole page, to be read.
@@ -82,7 +89,7 @@ impl Sheet {
 /// Puts a bundle and reads it.
 fn read(comparison: &mut Comparison, sheet: &mut Sheet, bundle: usize, halves: Bundle) -> Same {
     sheet.put(bundle, halves);
-    comparison.read(sheet.code(), bundle as u32)
+    comparison.read(sheet.code(), bundle as u32).map(|_| ())
 }
 
 /// A halfword in both halves of a bundle.
@@ -102,6 +109,7 @@ fn pairs(comparison: &mut Comparison, random: &mut Random) -> Same {
     let mut sheet = Sheet::of_words(random, 64);
     for opener in 0xE800..=u16::MAX {
         if names::opens_a_row(opener) {
+            sheet.profile = FULL;
             for second in 0..=u16::MAX {
                 read(comparison, &mut sheet, 31, [opener, second])?;
             }
@@ -109,6 +117,7 @@ fn pairs(comparison: &mut Comparison, random: &mut Random) -> Same {
         let some: Vec<u16> = (0..RANDOM_SECONDS).map(|_| random.halfword()).collect();
         for second in SECONDS.into_iter().chain(some) {
             let bundle = random.pick(&[0, 31, 62]);
+            sheet.profile = codes::either(random);
             read(comparison, &mut sheet, bundle, [opener, second])?;
             sheet.put(bundle + 1, [second, asm::NOP]);
             read(comparison, &mut sheet, bundle, [asm::NOP, opener])?;
@@ -132,6 +141,7 @@ fn words(comparison: &mut Comparison, random: &mut Random) -> Same {
             let at = random.between(1, 63);
             sheet.put(at, asm::word(word));
             sheet.never_return = sets::any(random);
+            sheet.profile = codes::either(random);
             comparison.tally.class("words read", names::word(word));
             word_at(comparison, &mut sheet, at)?;
         }
@@ -158,7 +168,8 @@ fn word_at(comparison: &mut Comparison, sheet: &mut Sheet, at: usize) -> Same {
     Ok(())
 }
 
-/// Bundles past the page, wrong lengths, and both at once.
+/// Unknown profiles, wrong lengths, bundles past the page, and all at once. The
+/// number is also known from the papers' order, without either side.
 fn refusals(comparison: &mut Comparison, random: &mut Random) -> Same {
     let lengths = (0..=300).chain([511, 512, 1023, 1024, 65_536]);
     for length in lengths {
@@ -168,13 +179,39 @@ fn refusals(comparison: &mut Comparison, random: &mut Random) -> Same {
             .take(length)
             .collect();
         let code = Code::new(&page, sets::any(random));
-        let bundles = (length / 4) as u32;
-        let far = [63, 64, 65, 1000, 1 << 30, (1 << 30) + 1, 1 << 31, u32::MAX];
-        let near = [0, bundles.saturating_sub(1), bundles, bundles + 1];
-        for bundle in near.into_iter().chain(far) {
-            comparison.read(code, bundle)?;
+        for profile in UNKNOWN.into_iter().chain([FULL, SMALL]) {
+            refused(comparison, code.under(profile))?;
         }
-        comparison.count(code)?;
     }
     Ok(())
+}
+
+/// Bundles in a page and past it, and its count.
+fn refused(comparison: &mut Comparison, code: Code) -> Same {
+    let length = code.page.len();
+    let known = match () {
+        _ if code.profile > SMALL => 18,
+        _ if length > 256 || !length.is_multiple_of(4) => 1,
+        _ => 0,
+    };
+    let bundles = (length / 4) as u32;
+    let far = [63, 64, 65, 1000, 1 << 30, (1 << 30) + 1, 1 << 31, u32::MAX];
+    let near = [0, bundles.saturating_sub(1), bundles, bundles + 1];
+    for bundle in near.into_iter().chain(far) {
+        let past = known == 0 && bundle >= bundles;
+        let answered = comparison.read(code, bundle)?;
+        same_number(code, answered, if past { 8 } else { known })?;
+    }
+    same_number(code, comparison.count(code)?.0, known)
+}
+
+/// An error if the number that both sides answer is not the papers'.
+fn same_number(code: Code, answered: u32, known: u32) -> Same {
+    if answered == known {
+        return Ok(());
+    }
+    let (length, profile) = (code.page.len(), code.profile);
+    Err(format!(
+        "page of {length} bytes, profile {profile}: both sides answer {answered}, 01 and 02 {known}"
+    ))
 }

@@ -1,8 +1,9 @@
 //! Refusals of steps and runs, alone and together, and base validation. The
-//! number is also known from 01's order, without either side.
+//! number is also known from the papers' order, without either side, and so is
+//! that nothing lent changes.
 
+use super::codes::{self, UNKNOWN};
 use super::records;
-use super::sets;
 use super::sides::{Handed, Rams, NO_RECORD};
 use super::steps::noise;
 use super::{Comparison, Same};
@@ -13,18 +14,19 @@ use crate::second::page::Code;
 use crate::second::record::{stored_bytes, MOST_EXTERNAL};
 
 /// How often each choice of wrong things is made.
-const TIMES: usize = 60;
+const TIMES: usize = 30;
 /// Most bytes of external data.
 const MOST: usize = MOST_EXTERNAL as usize;
 
 /// What can be wrong, by bit: page, RAM, external data, record and place (1 to
-/// 5), and the bytes of the record.
+/// 5), the bytes of the record, and the profile.
 const PAGE: u32 = 1;
 const RAM: u32 = 2;
 const EXTERNAL: u32 = 4;
 const RECORD: u32 = 8;
 const PLACE: u32 = 16;
 const BYTES: u32 = 32;
+const PROFILE: u32 = 64;
 
 /// The whole part.
 pub fn compare(comparison: &mut Comparison) -> Same {
@@ -33,7 +35,7 @@ pub fn compare(comparison: &mut Comparison) -> Same {
     let last = noise(&mut random, 512);
     external[..512].copy_from_slice(&last);
     external[MOST - 512..MOST].copy_from_slice(&last);
-    for wrong in 0..64 {
+    for wrong in 0..128 {
         for time in 0..TIMES {
             together(comparison, &mut random, wrong, time, &external)?;
         }
@@ -43,10 +45,12 @@ pub fn compare(comparison: &mut Comparison) -> Same {
 }
 
 /// The number that a call with these wrong things answers: the lowest one's,
-/// but where there is no record, that stands before 4.
+/// but the profile's stands before all, and where there is no record, that
+/// stands before 4.
 fn expected(wrong: u32) -> u32 {
     match wrong {
         0 => 0,
+        _ if wrong & PROFILE != 0 => 18,
         _ if wrong & (PAGE | RAM | EXTERNAL) == 0 && wrong & BYTES != 0 => NO_RECORD,
         _ => wrong.trailing_zeros() + 1,
     }
@@ -105,6 +109,14 @@ fn record(random: &mut Random, wrong: u32, external: usize) -> Vec<u8> {
     bytes
 }
 
+/// The number of a profile; each unknown one by turns.
+fn profile(random: &mut Random, wrong: bool, time: usize) -> u32 {
+    match wrong {
+        true => UNKNOWN[time % UNKNOWN.len()],
+        false => codes::either(random),
+    }
+}
+
 /// A step and a run with some things wrong.
 fn together(
     comparison: &mut Comparison,
@@ -116,20 +128,24 @@ fn together(
     let page = page(random, wrong & PAGE != 0);
     let length = external_length(random, wrong & EXTERNAL != 0, time);
     let record = record(random, wrong, length);
-    let mut rams = Rams::new(vec![0x5A; ram_length(random, wrong & RAM != 0)]);
+    let ram = vec![0x5A; ram_length(random, wrong & RAM != 0)];
+    let mut rams = Rams::new(ram.clone());
+    let profile = profile(random, wrong & PROFILE != 0, time);
     let handed = Handed {
-        code: Code::new(&page, sets::any(random)),
+        code: codes::any(random, &page).under(profile),
         external: &external[..length],
         record: &record,
         budget: random.pick(&[0, 1, 5, u32::MAX]),
     };
     let ran = comparison.run(&handed, &mut rams)?;
-    let stepped = comparison.step(&handed.with_budget(1), &mut rams);
-    for answered in [ran.numbers.code, stepped?.numbers.code] {
-        if answered != expected(wrong) {
-            let number = expected(wrong);
+    let stepped = comparison.step(&handed.with_budget(1), &mut rams)?;
+    let known = expected(wrong);
+    for given in [ran, stepped] {
+        let answered = given.numbers.code;
+        let untouched = given.record == record && rams.library == ram;
+        if answered != known || known != 0 && !untouched {
             return Err(format!(
-                "wrong things {wrong:06b}: both sides answer {answered}, 01 {number}"
+                "wrong things {wrong:07b}: both sides answer {answered}, the papers {known}; record and RAM untouched: {untouched}"
             ));
         }
     }

@@ -44,13 +44,14 @@ fn handed_over(handed: &Handed, ram: usize) -> String {
     )
 }
 
-/// A page, and the syscalls that never return.
-fn code(code: Code) -> String {
+/// A page, the syscalls that never return and the profile.
+pub fn code(code: Code) -> String {
     format!(
-        "page ({} bytes): {}\nnever return: {:016X}\n",
+        "page ({} bytes): {}\nnever return: {:016X}\nprofile: {}\n",
         code.page.len(),
         show::page(code.page),
         code.never_return.0,
+        code.profile,
     )
 }
 

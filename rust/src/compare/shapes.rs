@@ -3,26 +3,23 @@
 
 use crate::assemble::{self as asm, Bundle};
 
-/// A page by the syscall's number, from 0 to 63.
-pub struct Shape {
+/// A page by what it is about, and its counts in the two cases that it is made
+/// for.
+pub struct Shape<T> {
     pub name: &'static str,
-    pub bundles: fn(u16) -> Vec<Bundle>,
-    /// The count if the syscall never returns.
-    pub last: usize,
-    /// The count if it goes on.
-    pub goes_on: usize,
+    pub bundles: fn(T) -> Vec<Bundle>,
+    pub counts: [usize; 2],
 }
 
-const fn shape(
+pub(super) const fn shape<T>(
     name: &'static str,
-    (last, goes_on): (usize, usize),
-    bundles: fn(u16) -> Vec<Bundle>,
-) -> Shape {
+    (one, other): (usize, usize),
+    bundles: fn(T) -> Vec<Bundle>,
+) -> Shape<T> {
     Shape {
         name,
         bundles,
-        last,
-        goes_on,
+        counts: [one, other],
     }
 }
 
@@ -47,8 +44,9 @@ const UNLISTED: u16 = 0xDE00;
 /// A service by the word of bundle 1.
 const BY_WORD: u16 = 0xDF01;
 
-/// Direct syscalls by where they stand.
-pub const DIRECT: [Shape; 21] = [
+/// Direct syscalls, 0 to 63, by where they stand: the counts if the syscall never
+/// returns and if it goes on.
+pub const DIRECT: [Shape<u16>; 21] = [
     shape("02's page", (1, 0), |n| vec![[NOP, direct(n)]]),
     shape("first half, at the end", (1, 0), |n| vec![[direct(n), NOP]]),
     shape("first half", (2, 2), |n| {
@@ -111,7 +109,7 @@ pub const DIRECT: [Shape; 21] = [
 ];
 
 /// What no set touches, at the end of a page or before a return.
-pub const OTHERS: [Shape; 9] = [
+pub const OTHERS: [Shape<u16>; 9] = [
     shape("syscall by a word, at the end", (0, 0), |n| {
         vec![[NOP, BY_WORD], syscall_word(n, 0)]
     }),

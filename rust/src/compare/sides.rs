@@ -10,6 +10,7 @@ use crate::second::exits::Exit;
 use crate::second::machine::{run_by, Answer, Stop};
 use crate::second::memory::{validate_with, RAM_SIZE};
 use crate::second::page::Code;
+use crate::second::profile::{FULL, SMALL};
 use crate::second::record::{parse, read_back, store, stored_bytes, Base, Record, STORED};
 use crate::second::rules::Rules;
 
@@ -98,11 +99,12 @@ fn numbers(answer: &Answer) -> Numbers {
     }
 }
 
-/// What answers a step or a run that is handed no record: 1, 2 or 3 by what is
-/// lent, else 255.
+/// What answers a step or a run that is handed no record: 18 by the profile, 1, 2
+/// or 3 by what is lent, else 255.
 fn areas_code(handed: &Handed, ram: usize) -> u32 {
     let (page, external) = (handed.code.page.len(), handed.external.len());
     match () {
+        _ if handed.code.profile > SMALL => 18,
         _ if page > 256 || page % 4 != 0 => 1,
         _ if ram != RAM_SIZE => 2,
         _ if external > 16_777_216 || external % 256 != 0 => 3,
@@ -133,27 +135,26 @@ fn second_run(rules: Rules, handed: &Handed, ram: &mut [u8]) -> Given {
     }
 }
 
-/// A page and its set as the library takes them.
-fn library_code(code: Code<'_>) -> (&[u8], u64) {
-    (code.page, code.never_return.0)
+/// A page, its set and its profile as the library takes them.
+fn library_code(code: Code<'_>) -> (&[u8], u64, u32) {
+    (code.page, code.never_return.0, code.profile)
 }
 
 /// A run of the library.
 fn library_run(handed: &Handed, ram: &mut [u8]) -> Given {
     let mut record = handed.record.to_vec();
-    let (page, set) = library_code(handed.code);
-    let numbers = raw::run(page, set, ram, handed.external, &mut record, handed.budget);
+    let (page, set, profile) = library_code(handed.code);
+    let (external, budget) = (handed.external, handed.budget);
+    let numbers = raw::run(page, set, profile, ram, external, &mut record, budget);
     Given { numbers, record }
 }
 
 /// A step of the library.
 fn library_step(handed: &Handed, ram: &mut [u8]) -> Given {
     let mut record = handed.record.to_vec();
-    let (page, set) = library_code(handed.code);
-    Given {
-        numbers: raw::step(page, set, ram, handed.external, &mut record),
-        record,
-    }
+    let (page, set, profile) = library_code(handed.code);
+    let numbers = raw::step(page, set, profile, ram, handed.external, &mut record);
+    Given { numbers, record }
 }
 
 /// The reader's answer in numbers.
@@ -239,32 +240,45 @@ impl Comparison {
         Ok(second)
     }
 
-    /// The count.
-    pub fn count(&mut self, counted: Code) -> Result<u32, String> {
-        let (page, set) = library_code(counted);
-        let library = raw::count(page, set);
+    /// The count, and the number of its refusal.
+    pub fn count(&mut self, counted: Code) -> Result<(u32, u32), String> {
+        let (page, set, profile) = library_code(counted);
+        let library = raw::count(page, set, profile);
         let (count, refusal) = count_of(self.rules, counted);
         let second = (code(refusal), count as u32);
         if library != second {
             return Err(report::page_call("count", counted, library, second));
         }
-        self.tally.call("count", second.0);
-        self.tally.set("sets counted", counted);
-        Ok(second.1)
+        self.tally.count(counted, second.0);
+        Ok(second)
     }
 
-    /// The reader.
-    pub fn read(&mut self, code: Code, bundle: u32) -> Same {
-        let (page, set) = library_code(code);
-        let library = raw::read_bundle(page, set, bundle);
+    /// The counts under the full profile and the small one, which is never the
+    /// larger.
+    pub fn counts(&mut self, counted: Code) -> Result<[u32; 2], String> {
+        let (_, full) = self.count(counted.under(FULL))?;
+        let (_, small) = self.count(counted.under(SMALL))?;
+        if small > full {
+            let page = report::code(counted);
+            return Err(format!(
+                "both sides count {full} under the full profile, {small} under the small one\n{page}"
+            ));
+        }
+        self.tally.counts(full, small);
+        Ok([full, small])
+    }
+
+    /// The reader; the answer is the number of its refusal.
+    pub fn read(&mut self, code: Code, bundle: u32) -> Result<u32, String> {
+        let (page, set, profile) = library_code(code);
+        let library = raw::read_bundle(page, set, profile, bundle);
         let second = reading_numbers(read_bundle_of(self.rules, code, bundle as usize));
         if library != second {
             let call = format!("read_bundle {bundle}");
             return Err(report::page_call(&call, code, library, second));
         }
-        self.tally.reading(second);
-        self.tally.syscalls_read(code, bundle as usize, second.1);
-        Ok(())
+        self.tally.reading(code, bundle as usize, second);
+        Ok(second.0)
     }
 
     /// Base validation.

@@ -2,18 +2,21 @@
 //! cases whole.
 
 use super::cases;
+use super::codes;
 use super::records::{self, EDGES};
 use super::sets;
 use super::sides::{Handed, Rams};
 use super::{Comparison, Same};
 use crate::assemble::{self as asm, page_bytes, Bundle};
+use crate::names;
 use crate::random::{self, Random};
 use crate::second::memory::RAM_SIZE;
 use crate::second::page::Code;
+use crate::second::profile::{FULL, SMALL};
 use crate::second::record::{stored_bytes, Record};
 
 /// Random cases; most of them are accepted.
-const CASES: u64 = 400_000;
+const CASES: u64 = 300_000;
 /// Lengths of external data.
 const EXTERNALS: [usize; 6] = [0, 256, 256, 512, 1024, 65_536];
 
@@ -54,7 +57,7 @@ fn random_step(
         records::spoil(&mut random, &mut record);
     }
     let handed = Handed {
-        code: Code::new(&case.page, sets::any(&mut random)),
+        code: codes::any(&mut random, &case.page),
         external,
         record: &record,
         budget: 1,
@@ -66,7 +69,8 @@ fn random_step(
     Ok(())
 }
 
-/// Every 16-bit halfword, at either half of a bundle in the page's middle.
+/// Every 16-bit halfword, at either half of a bundle from which all of cbz and
+/// cbnz reach code.
 fn every_halfword(
     comparison: &mut Comparison,
     random: &mut Random,
@@ -79,26 +83,44 @@ fn every_halfword(
     }
     for number in 0..2 * 0xE800 {
         let (half, at) = ((number / 2) as u16, number % 2);
-        bundles[24] = match at {
+        bundles[14] = match at {
             0 => [half, asm::NOP],
             _ => [asm::NOP, half],
         };
         let mut record = records::fit(random, external.len());
-        record.place = 48 + at as u16;
+        record.place = 28 + at as u16;
         let page = page_bytes(&bundles);
-        let handed = Handed {
-            code: Code::new(&page, sets::any(random)),
-            external,
-            record: &stored_bytes(&record),
-            budget: 1,
-        };
-        comparison.step(&handed, rams)?;
+        for &profile in profiles(half, at) {
+            let handed = Handed {
+                code: Code::new(&page, sets::any(random)).under(profile),
+                external,
+                record: &stored_bytes(&record),
+                budget: 1,
+            };
+            comparison.step(&handed, rams)?;
+        }
     }
     Ok(())
 }
 
-/// A step of a bundle from a record; the bundle stands in the page's middle.
-fn step_of(comparison: &mut Comparison, bundle: Bundle, record: &Record, rams: &mut Rams) -> Same {
+/// The profiles for a halfword at a half: both where the small one lacks it, else
+/// one at each half.
+fn profiles(half: u16, at: usize) -> &'static [u32] {
+    match (usize::from(half) + at) % 2 {
+        _ if names::is_compare_branch(half) => &[FULL, SMALL],
+        0 => &[FULL],
+        _ => &[SMALL],
+    }
+}
+
+/// A step of a bundle from a record under a profile; the bundle stands in the
+/// page's middle.
+fn step_of(
+    comparison: &mut Comparison,
+    (bundle, profile): (Bundle, u32),
+    record: &Record,
+    rams: &mut Rams,
+) -> Same {
     let mut bundles = [[asm::RETURN, asm::RETURN]; 8];
     bundles[4] = bundle;
     let place = 8 + record.place % 2;
@@ -108,7 +130,7 @@ fn step_of(comparison: &mut Comparison, bundle: Bundle, record: &Record, rams: &
     });
     let page = page_bytes(&bundles);
     let handed = Handed {
-        code: Code::plain(&page),
+        code: Code::plain(&page).under(profile),
         external: &[],
         record: &record,
         budget: 1,
@@ -116,7 +138,7 @@ fn step_of(comparison: &mut Comparison, bundle: Bundle, record: &Record, rams: &
     comparison.step(&handed, rams).map(|_| ())
 }
 
-/// Each condition with all flags, from both halves.
+/// Each condition with all flags, from both halves, under both profiles.
 fn conditions(comparison: &mut Comparison) -> Same {
     let mut rams = Rams::zero();
     for number in 0..14 * 16 * 2 {
@@ -131,7 +153,9 @@ fn conditions(comparison: &mut Comparison) -> Same {
             place: half as u16,
             ..Record::fresh()
         };
-        step_of(comparison, bundle, &record, &mut rams)?;
+        for profile in [FULL, SMALL] {
+            step_of(comparison, (bundle, profile), &record, &mut rams)?;
+        }
     }
     Ok(())
 }
@@ -172,7 +196,7 @@ fn both_carries(
             flags: records::flags(flags),
             ..Record::fresh()
         };
-        step_of(comparison, bundle, &record, rams)?;
+        step_of(comparison, (bundle, FULL), &record, rams)?;
     }
     Ok(())
 }

@@ -1,7 +1,10 @@
 //! Direct syscalls under sets of those that never return: each number in each
 //! shape of page with its bit set and clear, and pages crowded with syscalls.
-//! Counts and places are also known from 01 and 02, without either side.
+//! Counts and places are also known from 01 and 02, without either side, and are
+//! the same under both profiles.
 
+use super::calls::{counted, from_anywhere, places, read_all, series};
+use super::codes;
 use super::records;
 use super::sets;
 use super::shapes::{Shape, DIRECT, OTHERS};
@@ -10,15 +13,11 @@ use super::tally::LAST;
 use super::{Comparison, Same};
 use crate::assemble::{self as asm, page_bytes, Bundle};
 use crate::random::{self, Random};
-use crate::second::count::is_fit_place;
-use crate::second::page::{Code, NeverReturn, Page};
+use crate::second::page::{Code, NeverReturn};
 use crate::second::record::{stored_bytes, Record};
-use crate::second::rules::Rules;
 
 /// Crowded pages.
 const PAGES: usize = 1500;
-/// Calls of a series.
-const CALLS: usize = 5;
 
 /// The whole part.
 pub fn compare(comparison: &mut Comparison) -> Same {
@@ -41,45 +40,26 @@ pub fn compare(comparison: &mut Comparison) -> Same {
 fn one_shape(
     comparison: &mut Comparison,
     random: &mut Random,
-    shape: &Shape,
+    shape: &Shape<u16>,
     number: u16,
     rams: &mut Rams,
 ) -> Same {
     let page = page_bytes(&(shape.bundles)(number));
     for sets in sets::with_and_without(random, number.into()) {
-        let codes = sets.map(|never_return| Code::new(&page, never_return));
-        for (code, count) in codes.into_iter().zip([shape.last, shape.goes_on]) {
+        let profile = codes::either(random);
+        let both = sets.map(|never_return| Code::new(&page, never_return).under(profile));
+        for (code, count) in both.into_iter().zip(shape.counts) {
             counted(comparison, code, count)?;
         }
-        for place in places(page.len() / 2) {
+        for place in places(both[0]) {
             let record = records::fit(random, 0);
-            both_ways(comparison, codes, &Record { place, ..record }, rams)?;
+            both_ways(comparison, both, &Record { place, ..record }, rams)?;
         }
-        let [with, without] = codes;
-        series(comparison, random, with, without.never_return, rams)?;
-        series(comparison, random, without, with.never_return, rams)?;
+        let [with, without] = both;
+        series(comparison, random, with, without, rams)?;
+        series(comparison, random, without, with, rams)?;
     }
     Ok(())
-}
-
-/// Counts a page, whose count is known, and reads it.
-fn counted(comparison: &mut Comparison, code: Code, known: usize) -> Same {
-    let count = comparison.count(code)?;
-    if count as usize != known {
-        return Err(format!(
-            "set {:016X}: both sides count {count}, 01 and 02 {known}",
-            code.never_return.0
-        ));
-    }
-    for bundle in 0..=code.page.len() as u32 / 4 {
-        comparison.read(code, bundle)?;
-    }
-    Ok(())
-}
-
-/// The places of a page's first and last bundles, and one past them.
-fn places(halfwords: usize) -> impl Iterator<Item = u16> {
-    (0..=halfwords as u16).filter(move |&place| place < 4 || usize::from(place) + 4 >= halfwords)
 }
 
 /// A step from one record with both sets. Where neither is refused, only a
@@ -126,64 +106,6 @@ fn at_place(given: &Given, place: u16) -> Vec<u8> {
     moved.as_ref().map(stored_bytes).unwrap_or_default()
 }
 
-/// Whether a place of the page is fit under the set.
-fn is_fit(code: Code, place: u16) -> bool {
-    Page::new(code).is_some_and(|page| is_fit_place(Rules::RIGHT, page, place.into()))
-}
-
-/// Steps and runs with one set from the page's start, if that is fit: none may
-/// be refused. Before each comes a call with another set, which is.
-fn series(
-    comparison: &mut Comparison,
-    random: &mut Random,
-    code: Code,
-    other: NeverReturn,
-    rams: &mut Rams,
-) -> Same {
-    if !is_fit(code, 0) {
-        return Ok(());
-    }
-    let mut record = stored_bytes(&records::fit(random, 0));
-    for _ in 0..CALLS {
-        let own = Handed {
-            code,
-            external: &[],
-            record: &record,
-            budget: random.pick(&[1, 1, 2, 5, 40]),
-        };
-        foreign(comparison, &own, other, rams)?;
-        let given = match own.budget {
-            1 => comparison.step(&own, rams)?,
-            _ => comparison.run(&own, rams)?,
-        };
-        if given.numbers.code != 0 {
-            let refusal = given.numbers.code;
-            return Err(format!("both sides refuse a call of a series by {refusal}"));
-        }
-        record = given.record;
-    }
-    Ok(())
-}
-
-/// A refused call with another set: on the page itself where the place is not
-/// fit under that set, else on bytes that are no page.
-fn foreign(
-    comparison: &mut Comparison,
-    own: &Handed,
-    never_return: NeverReturn,
-    rams: &mut Rams,
-) -> Same {
-    let place = record_in(own.record).map_or(0, |record| record.place);
-    let whole = Code::new(own.code.page, never_return);
-    let code = if is_fit(whole, place) {
-        Code::new(&whole.page[..3], never_return)
-    } else {
-        comparison.tally.class(LAST, "refused with another set");
-        whole
-    };
-    comparison.run(&Handed { code, ..*own }, rams).map(|_| ())
-}
-
 /// A page of few syscalls that stand everywhere, under sets with some of them,
 /// and the complements.
 fn crowded(comparison: &mut Comparison, random: &mut Random, rams: &mut Rams) -> Same {
@@ -191,38 +113,18 @@ fn crowded(comparison: &mut Comparison, random: &mut Random, rams: &mut Rams) ->
     let page = page_bytes(&crowded_page(random, numbers));
     let set = sets::any(random);
     let one = sets::only(numbers[0].into());
-    let sets = [set, NeverReturn(set.0 ^ one.0), NeverReturn(!set.0)];
-    for (at, never_return) in sets.into_iter().enumerate() {
-        let code = Code::new(&page, never_return);
+    let profile = codes::either(random);
+    let three = [set, NeverReturn(set.0 ^ one.0), NeverReturn(!set.0)]
+        .map(|never_return| Code::new(&page, never_return).under(profile));
+    for (at, code) in three.into_iter().enumerate() {
         comparison.count(code)?;
-        for bundle in 0..page.len() as u32 / 4 {
-            comparison.read(code, bundle)?;
-        }
+        read_all(comparison, code)?;
         for _ in 0..3 {
             from_anywhere(comparison, random, code, rams)?;
         }
-        series(comparison, random, code, sets[(at + 1) % 3], rams)?;
+        series(comparison, random, code, three[(at + 1) % 3], rams)?;
     }
     Ok(())
-}
-
-/// A step and a run from any place.
-fn from_anywhere(
-    comparison: &mut Comparison,
-    random: &mut Random,
-    code: Code,
-    rams: &mut Rams,
-) -> Same {
-    let place = random.below(code.page.len() / 2) as u16;
-    let record = records::fit(random, 0);
-    let handed = Handed {
-        code,
-        external: &[],
-        record: &stored_bytes(&Record { place, ..record }),
-        budget: 30,
-    };
-    comparison.run(&handed, rams)?;
-    comparison.step(&handed.with_budget(1), rams).map(|_| ())
 }
 
 /// Code of such syscalls, and two words of syscalls after it.

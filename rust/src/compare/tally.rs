@@ -3,12 +3,14 @@
 use std::collections::{BTreeMap, BTreeSet};
 use std::fmt;
 
+use super::codes;
 use super::sets;
 use super::sides::{record_in, Given, Handed};
 use crate::assemble as asm;
 use crate::names::{self, BAD_WORDS, NARROW, SERVICES, WIDE, WORDS};
-use crate::second::count::is_fit_place;
+use crate::second::count::{is_fit_place, read_bundle, starts_with_terminator, Reading};
 use crate::second::page::{Code, NeverReturn, Page};
+use crate::second::profile::{Profile, FULL, SMALL};
 use crate::second::rules::Rules;
 
 /// Random steps that had to be taken.
@@ -18,20 +20,23 @@ pub const LEAST_PAGES: u64 = 20_000;
 
 /// The calls, each with the numbers that it can answer.
 const ANSWERS: [(&str, &[u32]); 8] = [
-    ("count", &[0, 1]),
-    ("reader", &[0, 1, 8]),
+    ("count", &[0, 1, 18]),
+    ("reader", &[0, 1, 8, 18]),
     ("validate", &[0, 3]),
     ("fresh", &[0, 6]),
     ("store", &[0, 6, 7]),
     ("load", &[0, 6, 7]),
-    ("step", &[0, 1, 2, 3, 4, 5, 255]),
-    ("run", &[0, 1, 2, 3, 4, 5, 255]),
+    ("step", &[0, 1, 2, 3, 4, 5, 18, 255]),
+    ("run", &[0, 1, 2, 3, 4, 5, 18, 255]),
 ];
 /// The kinds of stop.
 const STOPS: [&str; 6] = ["budget", "service", "literal", "fault", MARK, "refused"];
 /// The kind that is never met.
 const MARK: &str = "mark";
 const FAULTS: [&str; 6] = ["1", "2", "3", "4", "5", "6"];
+/// Those of loads and stores by r8 and r9, and the rest.
+const FAULTS_OF_BASES: [&str; 3] = ["1", "2", "3"];
+const OTHER_FAULTS: [&str; 3] = ["4", "5", "6"];
 const READINGS: [&str; 3] = ["bad", "none", "largest"];
 const BASES: [&str; 3] = ["none", "RAM", "external"];
 /// The kinds of exit, and what is none.
@@ -75,6 +80,31 @@ const LAST_SYSCALLS: [&str; 12] = [
     "refused with another set",
 ];
 
+/// Calls by the numbers of their profiles.
+const PROFILES: [&str; 3] = ["profiles counted", "profiles read", "profiles run"];
+/// What was met under the small profile alone.
+const SMALL_EXECUTED: &str = "executed under the small profile";
+const SMALL_STOPS: &str = "stops under the small profile";
+const SMALL_FAULTS: &str = "faults under the small profile";
+/// What the small profile lacks, by where it made a bundle bad.
+const LACKING: [&str; 3] = [
+    "bad in a first half",
+    "bad in a second half",
+    "bad behind a terminator",
+];
+const COMPARE_BRANCHES: [&str; 2] = ["cbz", "cbnz"];
+/// What else the small profile did.
+pub const SMALL_PROFILE: &str = "small profile";
+const SMALL_DID: [&str; 7] = [
+    "counted less",
+    "counted the same, not 0",
+    "made a place unfit",
+    "the same from one place",
+    "refused in a series under the full one",
+    "refused an unknown number in its own series",
+    "a series of several steps equals one run",
+];
+
 /// How often each class was met.
 #[derive(Default)]
 pub struct Tally {
@@ -93,21 +123,23 @@ impl Tally {
         *self.classes.entry((group, name)).or_default() += 1;
     }
 
-    /// Counts a step or a run by its stop and by its set.
+    /// Counts a step or a run by its stop, its set and its profile.
     pub fn stop(&mut self, call: &'static str, handed: &Handed, given: &Given) {
-        let numbers = &given.numbers;
+        let (code, numbers) = (handed.code, &given.numbers);
         self.call(call, numbers.code);
-        self.class("stops", STOPS[numbers.kind as usize]);
+        self.class_under(code, ["stops", SMALL_STOPS], STOPS[numbers.kind as usize]);
         if numbers.kind == 3 {
-            self.class("faults", FAULTS[numbers.value as usize - 1]);
+            let fault = FAULTS[numbers.value as usize - 1];
+            self.class_under(code, ["faults", SMALL_FAULTS], fault);
         }
         self.set("sets run", handed.code);
+        self.profile("profiles run", handed.code);
         self.syscall_met(call, handed.code, given);
     }
 
     /// Counts an executed step by the instruction at its place.
     pub fn instruction(&mut self, handed: &Handed, given: &Given) {
-        let (Some(page), Some(before)) = (Page::new(handed.code), record_in(handed.record)) else {
+        let (Ok(page), Some(before)) = (Page::new(handed.code), record_in(handed.record)) else {
             return;
         };
         let place = usize::from(before.place);
@@ -117,7 +149,7 @@ impl Tally {
         if given.numbers.steps == 0 {
             return;
         }
-        self.class("executed", name);
+        self.class_under(handed.code, ["executed", SMALL_EXECUTED], name);
         self.class("places", if place % 2 == 0 { "even" } else { "odd" });
         if BRANCHES.contains(&name) {
             let after = record_in(&given.record).map(|record| usize::from(record.place));
@@ -126,10 +158,22 @@ impl Tally {
         }
     }
 
-    /// Counts what the reader answered.
-    pub fn reading(&mut self, (code, kind, _): (u32, u32, u32)) {
-        self.call("reader", code);
+    /// Counts a count by its answer, its set and its profile.
+    pub fn count(&mut self, code: Code, answer: u32) {
+        self.call("count", answer);
+        self.set("sets counted", code);
+        self.profile("profiles counted", code);
+    }
+
+    /// Counts what the reader answered, and what stands in the bundle.
+    pub fn reading(&mut self, code: Code, bundle: usize, (answer, kind, _): (u32, u32, u32)) {
+        self.call("reader", answer);
         self.class("readings", READINGS[kind as usize]);
+        self.profile("profiles read", code);
+        self.syscalls_read(code, bundle, kind);
+        if answer == 0 && kind == 0 && code.profile == SMALL {
+            self.lacking_read(code, bundle);
+        }
     }
 
     /// Counts a base that was validated.
@@ -163,6 +207,10 @@ impl Tally {
         if self.met("stops", MARK) > 0 {
             missing.push("the mark of an unlisted halfword was met".to_string());
         }
+        let never = lacking().map(|name| (SMALL_EXECUTED, name));
+        let never = never.chain(FAULTS_OF_BASES.map(|name| (SMALL_FAULTS, name)));
+        let met = never.filter(|&(group, name)| self.met(group, name) > 0);
+        missing.extend(met.map(|(group, name)| format!("{group}: {name} was met")));
         for (name, least) in [("random steps", LEAST_STEPS), ("pages", LEAST_PAGES)] {
             let met = self.met("amounts", name);
             if met < least {
@@ -181,13 +229,13 @@ fn direct(half: u16) -> Option<u32> {
 /// Syscalls that never return: where they stand and what they do.
 impl Tally {
     /// Counts the kind of a set.
-    pub fn set(&mut self, group: &'static str, code: Code) {
+    fn set(&mut self, group: &'static str, code: Code) {
         self.class(group, sets::kind(code.never_return));
     }
 
     /// Counts a bundle with a direct syscall, if it was not read as bad.
-    pub fn syscalls_read(&mut self, code: Code, bundle: usize, kind: u32) {
-        let Some(page) = Page::new(code).filter(|_| kind != 0) else {
+    fn syscalls_read(&mut self, code: Code, bundle: usize, kind: u32) {
+        let (Ok(page), 1..) = (Page::new(code), kind) else {
             return;
         };
         let (first, second) = page.bundle(bundle);
@@ -214,7 +262,7 @@ impl Tally {
 
     /// Counts a stop at a direct syscall, and a place that one makes unfit.
     fn syscall_met(&mut self, call: &'static str, code: Code, given: &Given) {
-        let (Some(page), Some(after)) = (Page::new(code), record_in(&given.record)) else {
+        let (Ok(page), Some(after)) = (Page::new(code), record_in(&given.record)) else {
             return;
         };
         let place = usize::from(after.place);
@@ -240,6 +288,75 @@ impl Tally {
             self.class(LAST, "one goes on between two");
         }
     }
+}
+
+/// The small profile: what it lacks, and what it does.
+impl Tally {
+    /// Counts the number of a profile.
+    fn profile(&mut self, group: &'static str, code: Code) {
+        self.class(group, codes::kind(code.profile));
+    }
+
+    /// Counts one of a class, in the second group too if it was met under the
+    /// small profile.
+    fn class_under(&mut self, code: Code, groups: [&'static str; 2], name: &'static str) {
+        self.class(groups[0], name);
+        if code.profile == SMALL {
+            self.class(groups[1], name);
+        }
+    }
+
+    /// Counts the counts of a page under the full profile and the small one.
+    pub fn counts(&mut self, full: u32, small: u32) {
+        match small {
+            _ if small < full => self.class(SMALL_PROFILE, "counted less"),
+            0 => {}
+            _ => self.class(SMALL_PROFILE, "counted the same, not 0"),
+        }
+    }
+
+    /// Counts a bundle that is bad only by what the small profile lacks.
+    fn lacking_read(&mut self, code: Code, bundle: usize) {
+        let Ok(small) = Page::new(code) else { return };
+        let full = small.under(Profile::FULL);
+        let (first, second) = full.bundle(bundle);
+        let (half, stands) = match (is_lacking(first), is_lacking(second)) {
+            (true, _) => (0, LACKING[0]),
+            (_, false) => return,
+            _ if starts_with_terminator(small, bundle) == Some(true) => (1, LACKING[2]),
+            _ => (1, LACKING[1]),
+        };
+        if read_bundle(full, bundle) == Reading::Bad {
+            return;
+        }
+        if let Some(name) = names::at(full, 2 * bundle + half) {
+            self.class(stands, name);
+        }
+    }
+
+    /// Counts a call among those of a series that its set or its profile made a
+    /// refused one.
+    pub fn refused_in_series(&mut self, own: Code, other: Code) {
+        match (own.profile, other.profile) {
+            (FULL, SMALL) => self.class(SMALL_PROFILE, "refused in a series under the full one"),
+            (SMALL, 2..) => {
+                self.class(SMALL_PROFILE, "refused an unknown number in its own series");
+            }
+            (FULL, FULL) | (SMALL, SMALL) => self.class(LAST, "refused with another set"),
+            _ => {}
+        }
+    }
+}
+
+/// True if a halfword is cbz or cbnz, or opens a 32-bit instruction.
+fn is_lacking(half: u16) -> bool {
+    half >= 0xE800 || names::is_compare_branch(half)
+}
+
+/// The names of what the small profile lacks.
+fn lacking() -> impl Iterator<Item = &'static str> {
+    let wide = WIDE.iter().map(|row| row.name);
+    COMPARE_BRANCHES.into_iter().chain(wide)
 }
 
 /// True if an unfit place is odd and would be fit, did the syscall before it go
@@ -279,7 +396,30 @@ fn required() -> Vec<(&'static str, &'static str)> {
             SETS.iter()
                 .flat_map(|&group| sets::KINDS.map(|kind| (group, kind))),
         )
+        .chain(required_of_profiles())
         .collect()
+}
+
+/// The classes of profiles that must be met.
+fn required_of_profiles() -> impl Iterator<Item = (&'static str, &'static str)> {
+    let narrow = NARROW.iter().chain(&SERVICES).map(|row| row.name);
+    let executed = narrow
+        .chain(WORDS.iter().map(|row| row.name))
+        .filter(|name| !COMPARE_BRANCHES.contains(name));
+    let stops = STOPS.into_iter().filter(|&name| name != MARK);
+    executed
+        .map(|name| (SMALL_EXECUTED, name))
+        .chain(stops.map(|name| (SMALL_STOPS, name)))
+        .chain(OTHER_FAULTS.map(|name| (SMALL_FAULTS, name)))
+        .chain(lacking().map(|name| (LACKING[0], name)))
+        .chain(COMPARE_BRANCHES.map(|name| (LACKING[1], name)))
+        .chain(COMPARE_BRANCHES.map(|name| (LACKING[2], name)))
+        .chain(SMALL_DID.map(|name| (SMALL_PROFILE, name)))
+        .chain(
+            PROFILES
+                .iter()
+                .flat_map(|&group| codes::KINDS.map(|kind| (group, kind))),
+        )
 }
 
 impl Tally {

@@ -1,7 +1,7 @@
 //! 01's "Successors and the count", by the definition, with 02's syscalls that
-//! never return among the terminators.
+//! never return among the terminators, and over the encodings of a profile.
 
-use super::decode::{narrow, opens_wide, wide, Instruction};
+use super::decode::{opens_wide, Instruction};
 use super::page::{Code, Page};
 use super::rules::Rules;
 use super::services::{literal_service, Service};
@@ -25,12 +25,12 @@ pub fn successors(page: Page, bundle: usize) -> Option<Vec<usize>> {
     let (first, second) = page.bundle(bundle);
     let next = bundle + 1;
     if opens_wide(first) {
-        return wide(first, second).map(|_| vec![next]);
+        return page.wide(first, second).map(|_| vec![next]);
     }
     if opens_wide(second) {
         return None;
     }
-    let (first, second) = (narrow(first)?, narrow(second)?);
+    let (first, second) = (page.narrow(first)?, page.narrow(second)?);
     let start = flow(page, first, 4 * bundle)?;
     let mut all: Vec<usize> = start.target.into_iter().collect();
     if start.terminator {
@@ -90,7 +90,12 @@ fn target_bundle(address: usize, offset: i32) -> Option<usize> {
 
 /// The reader's answer for a bundle of the page.
 pub fn read_bundle(page: Page, bundle: usize) -> Reading {
-    match successors(page, bundle) {
+    largest(successors(page, bundle))
+}
+
+/// The reader's answer for a bundle with such successors.
+pub fn largest(successors: Option<Vec<usize>>) -> Reading {
+    match successors {
         None => Reading::Bad,
         Some(all) => match all.into_iter().max() {
             None => Reading::NoSuccessor,
@@ -99,49 +104,58 @@ pub fn read_bundle(page: Page, bundle: usize) -> Reading {
     }
 }
 
-/// The bundle reader with its refusals, 1 and 8; refused, the bundle is bad.
+/// The bundle reader with its refusals, 18, 1 and 8; refused, the bundle is bad.
 pub fn read_bundle_of(rules: Rules, code: Code, bundle: usize) -> (Reading, Option<u8>) {
-    match Page::new(code.by(rules.counted)) {
-        None => (Reading::Bad, Some(1)),
-        Some(page) if bundle >= page.bundles() => (Reading::Bad, Some(8)),
-        Some(page) => ((rules.reading)(page, bundle), None),
+    match (rules.counted)(code) {
+        Err(number) => (Reading::Bad, Some(number)),
+        Ok(page) if bundle >= page.bundles() => (Reading::Bad, Some(8)),
+        Ok(page) => ((rules.reading)(page, bundle), None),
     }
-}
-
-/// True if the first `m` bundles are not bad and all lead below `m`.
-pub fn is_closed(page: Page, m: usize) -> bool {
-    (0..m).all(|bundle| {
-        successors(page, bundle).is_some_and(|all| all.iter().all(|&successor| successor < m))
-    })
 }
 
 /// The greatest closed prefix: every prefix is tried, the largest first.
 pub fn count(page: Page) -> usize {
-    (0..=page.bundles())
+    greatest_closed(page.bundles(), |bundle| successors(page, bundle))
+}
+
+/// The same of so many bundles with such successors.
+pub fn greatest_closed(
+    bundles: usize,
+    successors: impl Fn(usize) -> Option<Vec<usize>> + Copy,
+) -> usize {
+    (0..=bundles)
         .rev()
-        .find(|&m| is_closed(page, m))
+        .find(|&m| is_closed(m, successors))
         .unwrap_or(0)
 }
 
-/// The count with its refusal 1; refused, it is 0.
+/// True if the first `m` bundles are not bad and all lead below `m`.
+fn is_closed(m: usize, successors: impl Fn(usize) -> Option<Vec<usize>>) -> bool {
+    (0..m).all(|bundle| {
+        successors(bundle).is_some_and(|all| all.iter().all(|&successor| successor < m))
+    })
+}
+
+/// The count with its refusals, 18 and 1; refused, it is 0.
 pub fn count_of(rules: Rules, code: Code) -> (usize, Option<u8>) {
-    match Page::new(code.by(rules.counted)) {
-        None => (0, Some(1)),
-        Some(page) => ((rules.count)(page), None),
+    match (rules.counted)(code) {
+        Err(number) => (0, Some(number)),
+        Ok(page) => ((rules.count)(page), None),
     }
+}
+
+/// Whether a terminator stands first in a bundle; nothing where that is bad or
+/// a 32-bit instruction.
+pub fn starts_with_terminator(page: Page, bundle: usize) -> Option<bool> {
+    let (first, _) = page.bundle(bundle);
+    let start = flow(page, page.narrow(first)?, 4 * bundle)?;
+    Some(start.terminator)
 }
 
 /// 01's "Fit place": below the count, and an odd place needs a bundle of two
 /// 16-bit instructions whose first is no terminator.
 pub fn is_fit_place(rules: Rules, page: Page, place: usize) -> bool {
     let bundle = place / 2;
-    if bundle >= (rules.count)(page) {
-        return false;
-    }
-    let (first, _) = page.bundle(bundle);
-    let splits = || {
-        let start = narrow(first).and_then(|i| flow(page, i, 4 * bundle));
-        !opens_wide(first) && start.is_some_and(|flow| !flow.terminator)
-    };
-    place.is_multiple_of(2) || splits()
+    bundle < (rules.count)(page)
+        && (place.is_multiple_of(2) || starts_with_terminator(page, bundle) == Some(false))
 }

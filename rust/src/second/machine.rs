@@ -1,8 +1,8 @@
-//! Steps and runs, with their refusals 1 to 5, faults and stops.
+//! Steps and runs, with their refusals, 18 and 1 to 5, faults and stops.
 
 use super::arith::{add_with_carry, multiply, sdiv, shift_c, sign_extend, udiv, Shift};
 use super::count::{branch_target, is_fit_place};
-use super::decode::{narrow, opens_wide, wide, DataOp, Instruction, Operand, Register};
+use super::decode::{opens_wide, DataOp, Instruction, Operand, Register};
 use super::memory::{self, Fault};
 use super::page::{Code, Page};
 use super::record::{Base, Record};
@@ -20,7 +20,8 @@ pub enum Stop {
     Budget,
     /// The call was refused, by this number.
     Refused(u8),
-    /// A halfword that matches no listed encoding: never met from a fit place.
+    /// A halfword that matches no listed encoding of the profile: never met from
+    /// a fit place.
     Unlisted,
 }
 
@@ -76,7 +77,7 @@ fn accept<'a>(
     external: &[u8],
     record: &Record,
 ) -> Result<Page<'a>, u8> {
-    let page = Page::new(code.by(rules.run)).ok_or(1)?;
+    let page = (rules.run)(code)?;
     if ram.len() != memory::RAM_SIZE {
         return Err(2);
     }
@@ -175,12 +176,13 @@ impl Machine<'_> {
         }
         let first = self.page.halfword(place);
         if !opens_wide(first) {
-            return Some((narrow(first)?, 1));
+            return Some((self.page.narrow(first)?, 1));
         }
         if !place.is_multiple_of(2) {
             return None;
         }
-        Some((wide(first, self.page.halfword(place + 1))?, 2))
+        let second = self.page.halfword(place + 1);
+        Some((self.page.wide(first, second)?, 2))
     }
 
     /// Moves the place, and tells how the run stops if it does.

@@ -1,4 +1,5 @@
-//! The second program: decoder, arithmetic, services, count, machine, text.
+//! The second program: decoder, profiles, arithmetic, services, count, machine,
+//! text.
 
 pub mod arith;
 pub mod count;
@@ -7,6 +8,7 @@ pub mod exits;
 pub mod machine;
 pub mod memory;
 pub mod page;
+pub mod profile;
 pub mod record;
 pub mod rules;
 pub mod services;

@@ -5,7 +5,7 @@ use super::arith::{condition_passed, Flags};
 use super::count::{count, read_bundle, Reading};
 use super::exits::{exit_of, Exit};
 use super::memory::validate;
-use super::page::{NeverReturn, Page};
+use super::page::{Code, NeverReturn, Page};
 use super::record::{Base, Record};
 
 /// One rule of each kind.
@@ -17,10 +17,11 @@ pub struct Rules {
     pub reading: fn(Page, usize) -> Reading,
     /// The count of a page.
     pub count: fn(Page) -> usize,
-    /// The set that the count and the reader make of the one they are given.
-    pub counted: fn(NeverReturn) -> NeverReturn,
-    /// The set that a step or a run makes of the one it is given.
-    pub run: fn(NeverReturn) -> NeverReturn,
+    /// The page, under its set and profile, that the count and the reader make
+    /// of what they are given, or their refusal.
+    pub counted: fn(Code) -> Result<Page, u8>,
+    /// The same for a step or a run.
+    pub run: fn(Code) -> Result<Page, u8>,
     /// Whether the place stays at an exit.
     pub stays: fn(Exit, NeverReturn) -> bool,
     /// validate(v), with so many bytes of external data.
@@ -37,8 +38,8 @@ impl Rules {
         condition: condition_passed,
         reading: read_bundle,
         count,
-        counted: |given| given,
-        run: |given| given,
+        counted: |code| Page::new(code),
+        run: |code| Page::new(code),
         stays: Exit::is_terminator,
         validate,
         in_range: Record::is_in_range,

@@ -1,5 +1,5 @@
 //! What the lister and the runner print for a page, to the byte. Both give the
-//! empty set of syscalls that never return.
+//! empty set of syscalls that never return and the full profile.
 
 use super::arith::Flags;
 use super::count::Reading;
@@ -14,8 +14,9 @@ pub const BUDGET: u32 = 100_000;
 
 /// The whole output of the lister.
 pub fn lister(rules: Rules, bytes: &[u8]) -> String {
-    let Some(page) = Page::new(Code::plain(bytes).by(rules.counted)) else {
-        return refused(1);
+    let page = match (rules.counted)(Code::plain(bytes)) {
+        Ok(page) => page,
+        Err(number) => return refused(number),
     };
     let count = (rules.count)(page);
     let mut text = format!("bundles {} count {count}\n", page.bundles());

@@ -1,0 +1,112 @@
+//! Calls on one page that several parts make: all its bundles, any of its places,
+//! and series with refused calls among them.
+
+use super::records;
+use super::sides::{record_in, Handed, Rams};
+use super::{Comparison, Same};
+use crate::random::Random;
+use crate::second::count::is_fit_place;
+use crate::second::page::{Code, Page};
+use crate::second::record::{stored_bytes, Record};
+use crate::second::rules::Rules;
+
+/// Calls of a series.
+const CALLS: usize = 5;
+
+/// Counts a page, whose count is known, and reads it.
+pub fn counted(comparison: &mut Comparison, code: Code, known: usize) -> Same {
+    let (_, count) = comparison.count(code)?;
+    if count as usize != known {
+        return Err(format!(
+            "set {:016X}, profile {}: both sides count {count}, 01 and 02 {known}",
+            code.never_return.0, code.profile
+        ));
+    }
+    read_all(comparison, code)
+}
+
+/// Reads every bundle of a page, and one past them.
+pub fn read_all(comparison: &mut Comparison, code: Code) -> Same {
+    for bundle in 0..=code.page.len() as u32 / 4 {
+        comparison.read(code, bundle)?;
+    }
+    Ok(())
+}
+
+/// The places of a page's first and last bundles, and one past them.
+pub fn places(code: Code) -> impl Iterator<Item = u16> {
+    let halfwords = code.page.len() / 2;
+    (0..=halfwords as u16).filter(move |&place| place < 4 || usize::from(place) + 4 >= halfwords)
+}
+
+/// Whether a place of the page is fit under its set and profile.
+fn is_fit(code: Code, place: u16) -> bool {
+    Page::new(code).is_ok_and(|page| is_fit_place(Rules::RIGHT, page, place.into()))
+}
+
+/// Steps and runs of one page from its start, if that is fit: none may be refused.
+/// Before each comes a call with another set or profile, which is.
+pub fn series(
+    comparison: &mut Comparison,
+    random: &mut Random,
+    code: Code,
+    other: Code,
+    rams: &mut Rams,
+) -> Same {
+    if !is_fit(code, 0) {
+        return Ok(());
+    }
+    let mut record = stored_bytes(&records::fit(random, 0));
+    for _ in 0..CALLS {
+        let own = Handed {
+            code,
+            external: &[],
+            record: &record,
+            budget: random.pick(&[1, 1, 2, 5, 40]),
+        };
+        foreign(comparison, &own, other, rams)?;
+        let given = match own.budget {
+            1 => comparison.step(&own, rams)?,
+            _ => comparison.run(&own, rams)?,
+        };
+        if given.numbers.code != 0 {
+            let refusal = given.numbers.code;
+            return Err(format!("both sides refuse a call of a series by {refusal}"));
+        }
+        record = given.record;
+    }
+    Ok(())
+}
+
+/// A refused call with another set or profile: on the page itself where that
+/// makes it one, else on bytes that are no page.
+fn foreign(comparison: &mut Comparison, own: &Handed, other: Code, rams: &mut Rams) -> Same {
+    let place = record_in(own.record).map_or(0, |record| record.place);
+    let code = if is_fit(other, place) {
+        let page = &other.page[..3];
+        Code { page, ..other }
+    } else {
+        comparison.tally.refused_in_series(own.code, other);
+        other
+    };
+    comparison.run(&Handed { code, ..*own }, rams).map(|_| ())
+}
+
+/// A step and a run from any place.
+pub fn from_anywhere(
+    comparison: &mut Comparison,
+    random: &mut Random,
+    code: Code,
+    rams: &mut Rams,
+) -> Same {
+    let place = random.below(code.page.len() / 2) as u16;
+    let record = records::fit(random, 0);
+    let handed = Handed {
+        code,
+        external: &[],
+        record: &stored_bytes(&Record { place, ..record }),
+        budget: 30,
+    };
+    comparison.run(&handed, rams)?;
+    comparison.step(&handed.with_budget(1), rams).map(|_| ())
+}
