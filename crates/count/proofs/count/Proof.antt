@@ -25,14 +25,8 @@ abbrev μ-loop : tie.MeasureT-loop
 of-program-requires : tie.Need-of-program-requires Inv-loop μ-loop
 of-program-requires c κs = tt
 
-enum-known-why : tie.Need-enum-known-why Inv-loop μ-loop
-enum-known-why c = search needs
-
 returns : tie.Need-returns Inv-loop μ-loop
 returns c = rw (← c .before .before .before .of-program .ensures, c .before .why .given .1)
-
-enum-told : tie.Need-enum-told Inv-loop μ-loop
-enum-told c = search needs
 
 cast-k : tie.Need-cast-k Inv-loop μ-loop
 cast-k c =
@@ -77,5 +71,6 @@ returns-2 c =
     rw (← c .before .before .before .before .of-program .ensures, c .before .before .enum-told .given .1, scan-end (successorsOf program) (c .before .loop .k) (c .before .loop .bound) (countOf program) (omega arith) (c .before .loop .inv .1))
 
 pub count-spec : {M : Type 1} → statement M
-count-spec = tie.close (tie.spec Inv-loop μ-loop of-program-requires enum-known-why returns enum-told cast-k loop-holds sub-k
-    read-bundle-requires bound-after-requires loop-less loop-again returns-2)
+count-spec = tie.close (tie.spec Inv-loop μ-loop of-program-requires (λ c. search needs) returns
+    (λ c. search needs) cast-k loop-holds sub-k read-bundle-requires bound-after-requires loop-less
+    loop-again returns-2)
