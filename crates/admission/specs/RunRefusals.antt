@@ -1,12 +1,12 @@
--- What a step and a run refuse: 18, then 1 to 5.
+-- What a step and a run refuse: 18, 1, 2, 3, then 41 to 44, then 5.
 use Prim.Native.Nat.{ℕ}
 use mathlib.Core.Bool.{not}
 use mathlib.Core.List.{List, [], _∷_, _++_}
 use lib.Dec.{eqb}
 use lib.ListN.{length}
 use Rattle.refusal.specs.Refusals.{Decision, Rule, rule, decision}
-use Rattle.platform.specs.Programs.{programRules, Setting}
-use Rattle.state.specs.Record.{fitRecord}
+use Rattle.platform.specs.Programs.{Program, programRules, Setting}
+use Rattle.state.specs.FitRecord.{fitRules}
 use Rattle.state.specs.Validation.{externalRule}
 use Rattle.state.specs.declared.Record.{Record}
 use Rattle.place.specs.Places.{fitPlace}
@@ -19,9 +19,13 @@ ramRule ram = rule (not (eqb (length ram) 32768)) 2 []
 abbrev pub areaRules : Setting → List ℕ → List Rule
 areaRules setting ram = programRules (setting .program) ++ (ramRule ram ∷ externalRule (length (setting .external)) ∷ [])
 
+-- refusal 5
+abbrev pub placeRule : Program → ℕ → Rule
+placeRule program place = rule (not (fitPlace program place)) 5 []
+
+-- of the record: 41 to 44, 5
 abbrev pub recordRules : Setting → Record → List Rule
-recordRules setting r =
-    rule (not (fitRecord r (length (setting .external)))) 4 [] ∷ rule (not (fitPlace (setting .program) (r .place))) 5 [] ∷ []
+recordRules setting r = fitRules r (length (setting .external)) ++ (placeRule (setting .program) (r .place) ∷ [])
 
 abbrev pub runRules : Setting → Record → List ℕ → List Rule
 runRules setting r ram = areaRules setting ram ++ recordRules setting r

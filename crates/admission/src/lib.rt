@@ -1,8 +1,9 @@
 // What a step and a run refuse.
+ghost use mathlib.Core.List.{[], _∷_};
 ghost use mathlib.Core.Path.{_≡_};
 ghost use Rattle.platform.specs.Programs.{programOf, settingOf};
 ghost use Rattle.refusal.specs.Refusals.{decision, decisionOf};
-ghost use Rattle.admission.specs.RunRefusals.{areaRules, recordRules, runDecision};
+ghost use Rattle.admission.specs.RunRefusals.{areaRules, placeRule, recordRules, runDecision};
 use platform::Platform;
 use refusal::Refusal;
 use refusal::Verdict;
@@ -24,17 +25,22 @@ pub fn of_areas(page: &[u8], platform: Platform, ram: &[u8], external: &[u8]) ->
     Verdict::Accepted
 }
 
+fn of_place(page: &[u8], platform: Platform, place: u16) -> Verdict
+    ensures { λ v. ⌜ decisionOf v ≡ decision (placeRule (programOf (now (page .entry)) platform) place ∷ []) ⌝ }
+{
+    if !place::is_fit(page, platform, place) {
+        return Verdict::Refused(Refusal::UnfitPlace);
+    }
+    Verdict::Accepted
+}
+
 // The record is fit, and so is its place.
 fn of_record(page: &[u8], platform: Platform, external: &[u8], r: Record) -> Verdict
     ensures { λ v. ⌜ decisionOf v ≡ decision (recordRules (settingOf (programOf (now (page .entry)) platform) (now (external .entry))) r) ⌝ }
 {
-    if !state::is_fit(r, external.len()) {
-        return Verdict::Refused(Refusal::UnfitRecord);
-    }
-    if !place::is_fit(page, platform, r.place) {
-        return Verdict::Refused(Refusal::UnfitPlace);
-    }
-    Verdict::Accepted
+    let fit = state::fitness(r, external.len());
+    let placed = of_place(page, platform, r.place);
+    refusal::first_of(fit, placed)
 }
 
 pub fn verdict_of(

@@ -11,7 +11,8 @@ use Rattle.refusal.specs.Refusals.{accepted, refused, decision}
 use Rattle.platform.specs.Programs.{programRules, Setting}
 use Rattle.platform.proofs.Theorems.{program-accepts}
 use Rattle.count.specs.Count.{countOf}
-use Rattle.state.specs.Record.{freshRecord, withPlace, fitRecord}
+use Rattle.state.specs.FitRecord.{fitRecord}
+use Rattle.state.specs.Record.{freshRecord, withPlace}
 use Rattle.place.specs.Places.{fitPlace}
 use Rattle.instruction.proofs.FitPlaces.{bundle-fits}
 use Rattle.admission.specs.RunRefusals.{runDecision}

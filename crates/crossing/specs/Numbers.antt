@@ -1,6 +1,6 @@
 -- The answers of the library's calls in numbers.
 use Prim.Native.Nat.{ℕ}
-use mathlib.Core.List.{List}
+use lib.ListN.{getD}
 use Rattle.refusal.specs.Refusals.{Decision, accepted}
 use Rattle.refusal.specs.Refusals as decisions
 use Rattle.prefix.specs.LargestSuccessor.{Reading, badBundle, noSuccessor, largest}
@@ -11,6 +11,11 @@ use Rattle.crossing.specs.declared.StopNumbers.{StopNumbers}
 abbrev pub codeOf : Decision → ℕ
 codeOf accepted = 0
 codeOf (decisions.refused n values) = n
+
+-- the position that a refusal carries; 0 where it carries none
+abbrev pub positionOf : Decision → ℕ
+positionOf accepted = 0
+positionOf (decisions.refused n values) = getD values 0 0
 
 -- ---- the reader's answer: 0 bad, 1 no successor, 2 a largest one
 
@@ -26,15 +31,18 @@ largestNumber (largest s) = s
 
 -- ---- a stop
 
-abbrev pub refusedWith : ℕ → StopNumbers
-refusedWith n = record { code = n; kind = 5; value = n; literal = 0 }
+abbrev pub stoppedWith : ℕ → ℕ → ℕ → StopNumbers
+stoppedWith kind value literal = record { code = 0; kind = kind; value = value; literal = literal; position = 0 }
+
+abbrev pub refusedWith : Decision → StopNumbers
+refusedWith d = record { code = codeOf d; kind = 5; value = codeOf d; literal = 0; position = positionOf d }
 
 -- a stop in numbers: the code is 0, or the refusal's number; the kind is 0 budget, 1 a service exit, 2 one with its literal, 3 a
 -- fault, 4 an unlisted halfword, 5 a refusal; the value is the low byte, or the fault's or the refusal's number
 abbrev pub stopNumbers : Reason → StopNumbers
-stopNumbers budget = record { code = 0; kind = 0; value = 0; literal = 0 }
-stopNumbers (service (direct n)) = record { code = 0; kind = 1; value = n; literal = 0 }
-stopNumbers (service (byLiteral n literal)) = record { code = 0; kind = 2; value = n; literal = literal }
-stopNumbers (fault n) = record { code = 0; kind = 3; value = n; literal = 0 }
-stopNumbers unlisted = record { code = 0; kind = 4; value = 0; literal = 0 }
-stopNumbers (refused n values) = refusedWith n
+stopNumbers budget = stoppedWith 0 0 0
+stopNumbers (service (direct n)) = stoppedWith 1 n 0
+stopNumbers (service (byLiteral n literal)) = stoppedWith 2 n literal
+stopNumbers (fault n) = stoppedWith 3 n 0
+stopNumbers unlisted = stoppedWith 4 0 0
+stopNumbers (refused n values) = refusedWith (decisions.refused n values)

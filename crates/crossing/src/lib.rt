@@ -1,22 +1,25 @@
 // The answers of the library's calls in numbers, as C has them.
 ghost use mathlib.Core.Path.{_≡_};
-ghost use mathlib.Core.List.{[]};
-ghost use Rattle.refusal.specs.Refusals.{refused, whenAccepted, decisionOf};
+ghost use lib.ListN.{getD};
+ghost use Rattle.refusal.specs.Refusals.{carriedValues, decisionOf};
 ghost use Rattle.prefix.specs.LargestSuccessor.{readingOf};
 ghost use Rattle.stop.specs.Stops.{reasonOf};
 ghost use Rattle.crossing.specs.Exits.{bareExit, exitTo, exitWith, exitNumbers, decodedExit};
-ghost use Rattle.crossing.specs.Numbers.{codeOf, largestKind, largestNumber, stopNumbers};
+ghost use Rattle.crossing.specs.Numbers.{codeOf, positionOf, largestKind, largestNumber};
+ghost use Rattle.crossing.specs.Numbers.{stoppedWith, refusedWith, stopNumbers};
 use prefix::LargestSuccessor;
+use refusal::Carried;
 use refusal::Verdict;
 use service::Service;
 use stop::Stop;
 
-// A stop: 0 or a refusal's number, the kind, and what the kind carries.
+// A stop: 0 or a refusal's number, the kind, what the kind carries, and the position that a refusal carries.
 pub struct StopNumbers {
     pub code: u32,
     pub kind: u32,
     pub value: u32,
     pub literal: u32,
+    pub position: u32,
 }
 
 // What a service exit asks of the host; 0 where the kind carries none.
@@ -28,9 +31,6 @@ pub struct ExitNumbers {
     pub words: u32,
 }
 
-// The number that answers bytes which hold no record.
-const NO_RECORD: u32 = 255;
-
 pub fn code_of(verdict: Verdict) -> u32
     ensures { λ code. ⌜ code ≡ codeOf (decisionOf verdict) ⌝ }
 {
@@ -40,13 +40,24 @@ pub fn code_of(verdict: Verdict) -> u32
     }
 }
 
-// The code of a run that is handed no record, by the areas that it is handed.
-pub fn no_record_code(areas: Verdict) -> u32
-    ensures { λ code. ⌜ code ≡ codeOf (whenAccepted (decisionOf areas) (refused 255 []) (decisionOf areas)) ⌝ }
+// Where nothing is carried.
+const NO_POSITION: u32 = 0;
+
+fn carried_position(carried: Carried) -> u32
+    ensures { λ position. ⌜ position ≡ getD (carriedValues carried) 0 0 ⌝ }
 {
-    match areas {
-        Verdict::Accepted => NO_RECORD,
-        Verdict::Refused(why) => refusal::number(why) as u32,
+    match carried {
+        Carried::Nothing => NO_POSITION,
+        Carried::Position(position) => position,
+    }
+}
+
+pub fn position_of(verdict: Verdict) -> u32
+    ensures { λ position. ⌜ position ≡ positionOf (decisionOf verdict) ⌝ }
+{
+    match verdict {
+        Verdict::Accepted => NO_POSITION,
+        Verdict::Refused(why) => carried_position(refusal::carries(why)),
     }
 }
 
@@ -72,14 +83,29 @@ pub fn largest_number(successor: LargestSuccessor) -> u32
 
 // ---- stops
 
-fn stop_numbers(code: u32, kind: u32, value: u32, literal: u32) -> StopNumbers
-    ensures { λ numbers. ⌜ numbers ≡ record { code = code; kind = kind; value = value; literal = literal } ⌝ }
+fn stopped_with(kind: u32, value: u32, literal: u32) -> StopNumbers
+    ensures { λ numbers. ⌜ numbers ≡ stoppedWith kind value literal ⌝ }
 {
     StopNumbers {
-        code,
+        code: 0,
         kind,
         value,
         literal,
+        position: NO_POSITION,
+    }
+}
+
+// What a verdict refuses.
+pub fn refused_with(verdict: Verdict) -> StopNumbers
+    ensures { λ numbers. ⌜ numbers ≡ refusedWith (decisionOf verdict) ⌝ }
+{
+    let number = code_of(verdict);
+    StopNumbers {
+        code: number,
+        kind: 5,
+        value: number,
+        literal: 0,
+        position: position_of(verdict),
     }
 }
 
@@ -88,17 +114,12 @@ pub fn numbers_of(stop: Stop) -> StopNumbers
     ensures { λ numbers. ⌜ numbers ≡ stopNumbers (reasonOf stop) ⌝ }
 {
     match stop {
-        Stop::Budget => stop_numbers(0, 0, 0, 0),
-        Stop::Service(n) => stop_numbers(0, 1, n as u32, 0),
-        Stop::ServiceBy(n, literal) => stop_numbers(0, 2, n as u32, literal),
-        Stop::Fault(fault) => stop_numbers(0, 3, memory::fault_number(fault) as u32, 0),
-        Stop::Unlisted => stop_numbers(0, 4, 0, 0),
-        Stop::Refused(why) => stop_numbers(
-            refusal::number(why) as u32,
-            5,
-            refusal::number(why) as u32,
-            0,
-        ),
+        Stop::Budget => stopped_with(0, 0, 0),
+        Stop::Service(n) => stopped_with(1, n as u32, 0),
+        Stop::ServiceBy(n, literal) => stopped_with(2, n as u32, literal),
+        Stop::Fault(fault) => stopped_with(3, memory::fault_number(fault) as u32, 0),
+        Stop::Unlisted => stopped_with(4, 0, 0),
+        Stop::Refused(why) => refused_with(Verdict::Refused(why)),
     }
 }
 

@@ -1,35 +1,37 @@
 -- Which calls are accepted, and what they then give.
 use Prim.Native.Nat.{ℕ}
-use mathlib.Core.Path.{_≡_, ap, _∙_}
-use mathlib.Core.Bool.{Bool, true, false, not}
+use mathlib.Core.Path.{_≡_, sym, ap, _∙_}
 use mathlib.Core.List.{List, [], _∷_}
 use lib.Dec.{eqb}
 use borrow.Author.Tests.{eqb-true, eq-eqb, ne-eqb}
-use Rattle.refusal.specs.Refusals.{Decision, accepted, refused, rule, decision, whenAccepted}
+use Rattle.refusal.specs.Refusals.{Decision, accepted, refused, Rule, decision, whenAccepted, decisionOf}
+use Rattle.refusal.specs.declared.Verdict.{Verdict}
 use Rattle.refusal.proofs.Theorems.{passes}
 use Rattle.state.specs.Record.{freshRecord}
 use Rattle.state.specs.declared.Record.{Record}
-use Rattle.layout.specs.StoredForm.{recordBytes, recordIn}
-use Rattle.form.specs.Storing.{storeDecision, roomAfter, loadRecord}
+use Rattle.layout.specs.StoredForm.{rangeRules, recordBytes, recordIn}
+use Rattle.form.specs.Storing.{lengthRule, formRules, storeDecision, roomAfter, loadRecord}
+use Rattle.form.proofs.Ranges.{InRange}
 
--- to so many bytes, and to values that pass the range tests or not
-abbrev pub answer : ℕ → Bool → Decision
-answer n t = decision (rule (not (eqb n 44)) 6 [] ∷ rule (not t) 7 [] ∷ [])
+-- a table that begins with the length
+module _ (n : ℕ) (rules : List Rule) where
+  pub other-length : (n ≡ 44 → ⊥) → refused 6 [] ≡ decision (lengthRule n ∷ rules)
+  other-length h = rw (ne-eqb n 44 h)
 
-pub other-length : (n : ℕ) (t : Bool) → (n ≡ 44 → ⊥) → refused 6 [] ≡ answer n t
-other-length n t h = rw (ne-eqb n 44 h)
+  -- with its length, the rest decides
+  pub by-rest : n ≡ 44 → decision rules ≡ decision (lengthRule n ∷ rules)
+  by-rest h = rw (eq-eqb n 44 h)
 
-module _ (n : ℕ) (t : Bool) (h : n ≡ 44) where
-  pub out-of-range : t ≡ false → refused 7 [] ≡ answer n t
-  out-of-range e = rw (eq-eqb n 44 h, e)
+module _ (n : ℕ) (values : List ℕ) where
+  -- in the code
+  pub decided : (vs : List ℕ) (v w : Verdict) → n ≡ 44 → vs ≡ values → decisionOf v ≡ decision (rangeRules vs) → v ≡ w → decisionOf w ≡ decision (formRules n values)
+  decided vs v w h same e told =
+      ap decisionOf (sym told) ∙ e ∙ ap (λ (xs : List ℕ). decision (rangeRules xs)) same ∙ by-rest n (rangeRules values) h
 
-  pub in-range : t ≡ true → accepted ≡ answer n t
-  in-range e = rw (eq-eqb n 44 h, e)
-
-pub passed : (n : ℕ) (t : Bool) → answer n t ≡ accepted → (n ≡ 44) × (t ≡ true)
-passed n t e =
-    let p = passes (eqb n 44) 6 [] _ e in
-    (eqb-true n 44 (p .0), passes t 7 [] _ (p .1) .0)
+  pub passed : decision (formRules n values) ≡ accepted → (n ≡ 44) × InRange values
+  passed e =
+      let p = passes (eqb n 44) 6 [] _ e in
+      (eqb-true n 44 (p .0), p .1)
 
 -- ---- what a call gives
 

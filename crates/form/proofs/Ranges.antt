@@ -1,43 +1,49 @@
 -- What the range tests say of thirteen values.
 use Prim.Native.Nat.{ℕ, zero, suc}
 use mathlib.Core.Path.{_≡_, refl, sym, ap, _∙_}
-use mathlib.Core.Bool.{Bool, true, _&&_, and-assoc, and-true}
-use mathlib.Core.List.{List}
+use mathlib.Core.Bool.{true, not}
+use mathlib.Core.List.{List, [], _∷_}
 use lib.Dec.{leb}
 use lib.ListN.{length, getD}
-use Rattle.laws.proofs.Tests.{both}
-use Rattle.state.specs.Record.{spFits}
-use Rattle.layout.specs.StoredForm.{offsetInRange, valuesInRange, baseStands, isRecord}
+use Rattle.refusal.specs.Refusals.{accepted, rule, decision}
+use Rattle.refusal.proofs.Theorems.{passes}
+use Rattle.state.specs.FitRecord.{spFits}
+use Rattle.layout.specs.StoredForm.{offsetInRange, offsetStands, rangeRules}
 use Rattle.layout.proofs.Fields.{whole}
+use Rattle.layout.proofs.Theorems.{Stands, stand-tests}
 
-grouped : (s k o p f : Bool) → (s && (k && (o && (p && (f && true))))) ≡ (s && (k && o) && p && f)
-grouped s k o p f = simp (and-assoc, and-true)
+abbrev pub InRange : List ℕ → Type 0
+InRange values = decision (rangeRules values) ≡ accepted
 
--- the tests, one after the other; r0 to r7 have none
-pub tests : (values : List ℕ) → length values ≡ 13
-    → valuesInRange values
-    ≡ (spFits (getD values 8 0) && (leb (getD values 9 0) 2 && offsetInRange (getD values 9 0) (getD values 10 0)) && leb (getD values 11 0) 127 && leb (getD values 12 0) 15)
-tests values l =
-    let kind = getD values 9 0 in
-    ap valuesInRange (sym (whole 13 values l))
-    ∙ grouped (spFits (getD values 8 0)) (leb kind 2) (offsetInRange kind (getD values 10 0)) (leb (getD values 11 0) 127) (leb (getD values 12 0) 15)
+module _ (values : List ℕ) (l : length values ≡ 13) where
+  abbrev kind : ℕ
+  kind = getD values 9 0
 
-stands : (kind offset : ℕ) → offsetInRange kind offset ≡ true → baseStands kind offset ≡ true
-stands zero offset t = t
-stands (suc zero) offset t = refl
-stands (suc (suc zero)) offset t = refl
-stands (suc (suc (suc kind))) offset t = t
+  abbrev offset : ℕ
+  offset = getD values 10 0
 
-last : (s k o p f : Bool) → (s && (k && o) && p && f) ≡ true → (o ≡ true) × (f ≡ true)
-last s k o p f t =
-    let flags = both (s && (k && o) && p) f t in
-    let base = both s (k && o) (both (s && (k && o)) p (flags .0) .0) .1 in
-    (both k o base .1, flags .1)
+  -- the tests, one after the other; r0 to r7 have none
+  pub range-tests : decision (rangeRules values)
+      ≡ decision (
+      rule (not (spFits (getD values 8 0))) 7 (32 ∷ [])
+      ∷ rule (not (leb kind 2)) 7 (36 ∷ [])
+      ∷ rule (not (offsetInRange kind offset)) 7 (37 ∷ [])
+      ∷ rule (not (leb (getD values 11 0) 127)) 7 (41 ∷ [])
+      ∷ rule (not (leb (getD values 12 0) 15)) 7 (43 ∷ [])
+      ∷ []
+      )
+  range-tests = ap (λ (vs : List ℕ). decision (rangeRules vs)) (sym (whole 13 values l))
 
--- values in range are a record's
-pub ranged : (values : List ℕ) → length values ≡ 13 → valuesInRange values ≡ true → isRecord values ≡ true
-ranged values l t =
-    let kind = getD values 9 0 in
-    let offset = getD values 10 0 in
-    let p = last (spFits (getD values 8 0)) (leb kind 2) (offsetInRange kind offset) (leb (getD values 11 0) 127) (leb (getD values 12 0) 15) (sym (tests values l) ∙ t) in
-    rw (stands kind offset (p .0), p .1)
+  stands : (k o : ℕ) → offsetInRange k o ≡ true → offsetStands k o ≡ true
+  stands zero o t = t
+  stands (suc k) o t = refl
+
+  -- values in range are some record's
+  pub ranged : InRange values → Stands values
+  ranged t =
+      let sp = passes (spFits (getD values 8 0)) 7 (32 ∷ []) _ (sym range-tests ∙ t) in
+      let by-kind = passes (leb kind 2) 7 (36 ∷ []) _ (sp .1) in
+      let by-offset = passes (offsetInRange kind offset) 7 (37 ∷ []) _ (by-kind .1) in
+      let place = passes (leb (getD values 11 0) 127) 7 (41 ∷ []) _ (by-offset .1) in
+      let flags = passes (leb (getD values 12 0) 15) 7 (43 ∷ []) _ (place .1) in
+      rw (stand-tests values l, by-kind .0, stands kind offset (by-offset .0), flags .0)

@@ -1,8 +1,7 @@
 // Storing a record and reading it back: 44 bytes, and the range of each value.
 ghost use mathlib.Core.Path.{_≡_};
-ghost use mathlib.Core.Bool.{_&&_};
-ghost use Rattle.layout.specs.StoredForm.{kindInRange, offsetInRange, valuesInRange};
-ghost use Rattle.refusal.specs.Refusals.{decisionOf};
+ghost use Rattle.layout.specs.StoredForm.{offsetInRange, rangeRules};
+ghost use Rattle.refusal.specs.Refusals.{decision, decisionOf};
 ghost use Rattle.form.specs.Storing.{storeDecision, roomAfter, loadRecord, seenReadBack};
 use refusal::Refusal;
 use refusal::Verdict;
@@ -16,8 +15,8 @@ pub struct ReadBack {
 
 // ---- the range
 
-fn base_in_range(kind: u32, offset: u32) -> bool
-    ensures { λ t. ⌜ t ≡ (kindInRange kind kind && offsetInRange kind offset) ⌝ }
+fn offset_in_range(kind: u32, offset: u32) -> bool
+    ensures { λ t. ⌜ t ≡ offsetInRange kind offset ⌝ }
 {
     match kind {
         0 => offset == 0,
@@ -27,19 +26,26 @@ fn base_in_range(kind: u32, offset: u32) -> bool
     }
 }
 
-fn in_range(values: [u32; 13]) -> bool
-    ensures { λ t. ⌜ t ≡ valuesInRange values ⌝ }
+// The values are in range, or where the first field starts that isn't. r0 to r7 have no test.
+fn in_range(values: [u32; 13]) -> Verdict
+    ensures { λ v. ⌜ decisionOf v ≡ decision (rangeRules values) ⌝ }
 {
     if !state::sp_fits(values[8]) {
-        return false;
+        return Verdict::Refused(Refusal::FormRange(32));
     }
-    if !base_in_range(values[9], values[10]) {
-        return false;
+    if values[9] > 2 {
+        return Verdict::Refused(Refusal::FormRange(36));
+    }
+    if !offset_in_range(values[9], values[10]) {
+        return Verdict::Refused(Refusal::FormRange(37));
     }
     if values[11] > 127 {
-        return false;
+        return Verdict::Refused(Refusal::FormRange(41));
     }
-    values[12] <= 15
+    if values[12] > 15 {
+        return Verdict::Refused(Refusal::FormRange(43));
+    }
+    Verdict::Accepted
 }
 
 // ---- storing and reading back
@@ -51,11 +57,14 @@ pub fn store(r: Record, room: &mut [u8]) -> Verdict
     if room.len() != 44 {
         return Verdict::Refused(Refusal::FormLength);
     }
-    if !in_range(layout::values_of(r)) {
-        return Verdict::Refused(Refusal::FormRange);
+    let ranged = in_range(layout::values_of(r));
+    match ranged {
+        Verdict::Refused(why) => Verdict::Refused(why),
+        Verdict::Accepted => {
+            layout::write(r, &mut *room);
+            Verdict::Accepted
+        }
     }
-    layout::write(r, &mut *room);
-    Verdict::Accepted
 }
 
 // Reads a record back.
@@ -68,14 +77,15 @@ pub fn load(bytes: &[u8]) -> ReadBack
             loaded: state::fresh_record(),
         };
     }
-    if !in_range(layout::values_in(bytes)) {
-        return ReadBack {
-            verdict: Verdict::Refused(Refusal::FormRange),
+    let ranged = in_range(layout::values_in(bytes));
+    match ranged {
+        Verdict::Refused(why) => ReadBack {
+            verdict: Verdict::Refused(why),
             loaded: state::fresh_record(),
-        };
-    }
-    ReadBack {
-        verdict: Verdict::Accepted,
-        loaded: layout::record_in(bytes),
+        },
+        Verdict::Accepted => ReadBack {
+            verdict: Verdict::Accepted,
+            loaded: layout::record_in(bytes),
+        },
     }
 }

@@ -16,7 +16,8 @@ use Rattle.platform.proofs.Theorems.{program-accepted}
 use Rattle.prefix.proofs.Theorems.{definition}
 use Rattle.bundle.specs.Successors.{successorsOf}
 use Rattle.count.specs.Count.{countOf, countProgram}
-use Rattle.state.specs.Record.{offsetOf, spFits, baseFits, fitRecord}
+use Rattle.state.specs.FitRecord.{spFits, baseFits, fitRecord}
+use Rattle.state.specs.Record.{offsetOf}
 use Rattle.state.specs.Validation.{externalFits}
 use Rattle.state.specs.declared.Base.{Base}
 use Rattle.state.specs.declared.Base.the-variants.{Nothing, Ram, External}
@@ -73,7 +74,7 @@ sp-below sp h =
 
 base-below : (b : Base) (external : ℕ) → external < 2 ^ 32 → baseFits b external ≡ true → offsetOf b < 2 ^ 32
 base-below Nothing external l h = omega arith
-base-below (Ram o) external l h = omega (arith, ltb-true o (2 ^ 20) h)
+base-below (Ram o) external l h = omega (arith, ltb-true o (2 ^ 20) (both (ltb o (2 ^ 20)) true h .0))
 base-below (External o) external l h = omega (arith, ltb-true o external h)
 
 external-below : (external : ℕ) → externalFits external ≡ true → external < 2 ^ 32

@@ -2,7 +2,6 @@
 use mathlib.Core.Bool.{Bool, true, false, true≢false}
 use mathlib.Core.List.{List, [], _∷_}
 use mathlib.Core.Path.{_≡_, refl, sym, ap, subst, _∙_}
-use Rattle.refusal.specs.Refusals.{decision}
 use Rattle.stop.specs.Stops.{direct, byLiteral, Reason, budget, service, fault, unlisted, refused}
 use Rattle.plain.specs.PlainMachine.{Result}
 use Rattle.layout.specs.StoredForm.{recordIn, holdsRecord, Held}
@@ -14,8 +13,8 @@ use Rattle.machine.specs.Runs.{runOf}
 use Rattle.platform.specs.Programs.{Setting}
 use Rattle.claims.specs.Demand3.{Allowed, FitStart}
 use Rattle.claims.proofs.Demand3.{demand3-of}
-use Rattle.crossing.specs.Numbers.{codeOf, stopNumbers}
-use Rattle.marshbodkin.specs.HostRuns.{noRecordRules, crossing, hostRun}
+use Rattle.crossing.specs.Numbers.{stopNumbers}
+use Rattle.marshbodkin.specs.HostRuns.{crossing, hostRun}
 use Rattle.host_claims.specs.HostCalls.{LentBytes, HostCall, ofRun, ofStep, lentTo, crossedBy, stopIn}
 use Rattle.host_claims.specs.HostSeries.{RecordCall, handedRecord, gaveRecord, hostMachine, ByteState, crossedState, HostSeries, ifHeld, recordCalls, stateIn, KeepsBytes, Crosses, HostDemand3}
 use Rattle.host_claims.proofs.HeldAfter.{record-held, held-after}
@@ -65,10 +64,7 @@ module _ (c : RecordCall) where
       (λ i. record { stop = stop-back (ran .stop) (no-values (handedRecord c .setting) (handedRecord c .budget) (handedRecord c .rec) (handedRecord c .ram)) i; steps = ran .steps; rec = record-kept (ran .rec) ran-held i; ram = ran .ram })
 
 keeps-bytes : (c : HostCall) → holdsRecord (lentTo c .bytes) ≡ false → KeepsBytes c
-keeps-bytes c e = record {
-  number = codeOf (decision (noRecordRules (lentTo c .setting) (lentTo c .ram)));
-  gives = crossed-is c ∙ rw e;
-}
+keeps-bytes c e = crossed-is c ∙ rw e
 
 -- ---- a series
 
@@ -89,8 +85,8 @@ left-same : (seriesRecord seriesRam : Bool) (c : HostCall) (s : ByteState) → K
     → (seriesRecord ≡ true → lentTo c .bytes ≡ s .rec) → (seriesRam ≡ true → lentTo c .ram ≡ s .ram)
     → leftBy crossedState (other seriesRecord seriesRam c) s ≡ s
 left-same seriesRecord seriesRam c s k r m =
-    let rec = stays seriesRecord (s .rec) (crossedBy c .bytes) (λ t. rw (k .gives) (r t)) in
-    let ram = stays seriesRam (s .ram) (crossedBy c .ram) (λ t. rw (k .gives) (m t)) in
+    let rec = stays seriesRecord (s .rec) (crossedBy c .bytes) (λ t. rw k (r t)) in
+    let ram = stays seriesRam (s .ram) (crossedBy c .ram) (λ t. rw k (m t)) in
     λ i. record { rec = rec i; ram = ram i }
 
 still-holds : (seriesRecord seriesRam : Bool) (c : RecordCall) (s : ByteState) → holdsRecord (s .rec) ≡ true

@@ -38,7 +38,7 @@ pub record LentBytes (l : Lent) : Type 0 where
   pub ram : Bytes (l .ram)
 
 -- page, the set of syscalls that never return, the profile's number, RAM, external data, the record's bytes and, for `mb_raw_run`, the budget
-abbrev pub lentRun : (κs : Lfts 8) → ArgsD mb_raw_run.signature κs → Lent
+abbrev pub lentRun : (κs : Lfts 9) → ArgsD mb_raw_run.signature κs → Lent
 lentRun κs a = record {
   setting = settingOf (programOf (now (a .0)) (platformOf (a .1 .0) (a .1 .1 .0))) (now (a .1 .1 .1 .1 .0));
   budget = a .1 .1 .1 .1 .1 .1 .0;
@@ -46,7 +46,7 @@ lentRun κs a = record {
   ram = now (a .1 .1 .1 .0);
 }
 
-abbrev pub lentStep : (κs : Lfts 8) → ArgsD mb_raw_step.signature κs → Lent
+abbrev pub lentStep : (κs : Lfts 9) → ArgsD mb_raw_step.signature κs → Lent
 lentStep κs a = record {
   setting = settingOf (programOf (now (a .0)) (platformOf (a .1 .0) (a .1 .1 .0))) (now (a .1 .1 .1 .1 .0));
   budget = 1;
@@ -57,23 +57,23 @@ lentStep κs a = record {
 -- a call as the checker reads it: its arguments, its code, what is lent at exit, and all that is known of them: that bytes are
 -- bytes, and the contract
 pub data HostCall : Type 0 where
-  ofRun : (κs : Lfts 8) (a : ArgsD mb_raw_run.signature κs) (x : ResD mb_raw_run.signature κs) (s : AtExit (endedOf 8 run-kinds.ps run-kinds.r) κs)
+  ofRun : (κs : Lfts 9) (a : ArgsD mb_raw_run.signature κs) (x : ResD mb_raw_run.signature κs) (s : AtExit (endedOf 9 run-kinds.ps run-kinds.r) κs)
       → LentBytes (lentRun κs a) → run-reads.Post κs a x s → HostCall
-  ofStep : (κs : Lfts 8) (a : ArgsD mb_raw_step.signature κs) (x : ResD mb_raw_step.signature κs) (s : AtExit (endedOf 8 step-kinds.ps step-kinds.r) κs)
+  ofStep : (κs : Lfts 9) (a : ArgsD mb_raw_step.signature κs) (x : ResD mb_raw_step.signature κs) (s : AtExit (endedOf 9 step-kinds.ps step-kinds.r) κs)
       → LentBytes (lentStep κs a) → step-reads.Post κs a x s → HostCall
 
 abbrev pub lentTo : HostCall → Lent
 lentTo (ofRun κs a x s bytes contract) = lentRun κs a
 lentTo (ofStep κs a x s bytes contract) = lentStep κs a
 
--- the code, kind, value, literal, steps, the record's bytes and RAM
+-- the code, kind, value, literal, position, steps, the record's bytes and RAM
 abbrev pub crossedBy : HostCall → Crossed
 crossedBy (ofRun κs a x s bytes contract) =
     answered x (now (s .1 .1 .1 .1 .1 .1 .1 .0)) (now (s .1 .1 .1 .1 .1 .1 .1 .1 .0)) (now (s .1 .1 .1 .1 .1 .1 .1 .1 .1 .0))
-    (now (s .1 .1 .1 .1 .1 .1 .1 .1 .1 .1 .0)) (now (s .1 .1 .1 .1 .1 .0)) (now (s .1 .1 .1 .0))
+    (now (s .1 .1 .1 .1 .1 .1 .1 .1 .1 .1 .0)) (now (s .1 .1 .1 .1 .1 .1 .1 .1 .1 .1 .1 .0)) (now (s .1 .1 .1 .1 .1 .0)) (now (s .1 .1 .1 .0))
 crossedBy (ofStep κs a x s bytes contract) =
     answered x (now (s .1 .1 .1 .1 .1 .1 .0)) (now (s .1 .1 .1 .1 .1 .1 .1 .0)) (now (s .1 .1 .1 .1 .1 .1 .1 .1 .0))
-    (now (s .1 .1 .1 .1 .1 .1 .1 .1 .1 .0)) (now (s .1 .1 .1 .1 .1 .0)) (now (s .1 .1 .1 .0))
+    (now (s .1 .1 .1 .1 .1 .1 .1 .1 .1 .0)) (now (s .1 .1 .1 .1 .1 .1 .1 .1 .1 .1 .0)) (now (s .1 .1 .1 .1 .1 .0)) (now (s .1 .1 .1 .0))
 
 -- ---- what comes back, read
 

@@ -12,7 +12,9 @@ use Rattle.series.specs.Series.{State, fed, plainState}
 use Rattle.series.specs.Demand3.{Demand3}
 use Rattle.platform.specs.Programs.{Setting}
 use Rattle.claims.specs.Demand3.{machineOf}
+use Rattle.refusal.specs.Refusals.{decision}
 use Rattle.crossing.specs.Numbers.{refusedWith}
+use Rattle.marshbodkin.specs.HostRuns.{noRecordRules}
 use Rattle.host_claims.specs.HostCalls.{HostCall, lentTo, crossedBy, resultIn}
 
 -- ---- the machine of demand 3, called by a host
@@ -72,10 +74,14 @@ recordCalls (other seriesRecord seriesRam c ∷ cs) =
 abbrev pub stateIn : ByteState → State
 stateIn s = record { rec = recordIn (s .rec); ram = s .ram }
 
--- a call whose bytes hold none is refused, and changes no byte
-pub record KeepsBytes (c : HostCall) : Type 0 where
-  pub number : ℕ
-  pub gives : crossedBy c ≡ record { stop = refusedWith number; steps = 0; bytes = lentTo c .bytes; ram = lentTo c .ram }
+-- a call whose bytes hold none is refused, by 18, 1, 2 or 3, or by 255 with the position, and changes no byte
+abbrev pub KeepsBytes : HostCall → Type 0
+KeepsBytes c = crossedBy c ≡ record {
+  stop = refusedWith (decision (noRecordRules (lentTo c .setting) (lentTo c .bytes) (lentTo c .ram)));
+  steps = 0;
+  bytes = lentTo c .bytes;
+  ram = lentTo c .ram;
+}
 
 -- before, between and after the calls the bytes that stand hold a record
 abbrev pub Crosses : List (InSeries HostCall) → ByteState → Type 0

@@ -24,7 +24,8 @@ use Rattle.memory.specs.declared.Loaded.the-variants as loaded
 use Rattle.memory.specs.declared.Stored.{Stored}
 use Rattle.memory.specs.declared.Stored.the-variants.{Done}
 use Rattle.memory.specs.declared.Stored.the-variants as stored
-use Rattle.state.specs.Record.{register, spFits, baseFits}
+use Rattle.state.specs.FitRecord.{spFits, baseFits}
+use Rattle.state.specs.Record.{register}
 use Rattle.writing.specs.Writes.{writesNothing, writingSp, writingBase}
 use Rattle.state.specs.Validation.{validated}
 use Rattle.state.specs.declared.Base.{Base}
@@ -51,7 +52,7 @@ validated-fits v external = go (ltb v 0x80000000) (ltb (v - 0x80000000) external
   where
     go : (s t : Bool) → ltb (v - 0x80000000) external ≡ t
         → baseFits (cond s (Ram ((v + 2 ^ 20 - 0x10000) % 2 ^ 20)) (cond t (External (v - 0x80000000)) Nothing)) external ≡ true
-    go true t e = lt-ltb ((v + 2 ^ 20 - 0x10000) % 2 ^ 20) (2 ^ 20) (omega arith)
+    go true t e = rw (lt-ltb ((v + 2 ^ 20 - 0x10000) % 2 ^ 20) (2 ^ 20) (omega arith))
     go false true e = e
     go false false e = refl
 

@@ -27,7 +27,8 @@ use Rattle.bundle.specs.Flow.{endsFlow, jumpTo, serviceJump, flowBy, flowOf}
 use Rattle.memory.specs.Faults.{faultNumber}
 use Rattle.memory.specs.declared.Fault.{Fault}
 use Rattle.memory.specs.declared.Fault.the-variants.{NoBase, PastRam, OffExternalPage, PastStack, LowStack, PastPage}
-use Rattle.state.specs.Record.{register, withPlace, fitRecord}
+use Rattle.state.specs.FitRecord.{fitRecord}
+use Rattle.state.specs.Record.{register, withPlace}
 use Rattle.writing.specs.Writes.{writesNothing, applied}
 use Rattle.state.specs.declared.Record.{Record}
 use Rattle.writing.specs.declared.Writes.{Writes}

@@ -10,7 +10,7 @@ use Rattle.platform.specs.Programs.{Program, Setting}
 use Rattle.service.specs.Services.{endingIn}
 use Rattle.service.specs.declared.Ending.{Ending}
 use Rattle.service.specs.declared.Ending.the-variants as ending
-use Rattle.state.specs.Record.{fitRecord}
+use Rattle.state.specs.FitRecord.{fitRecord}
 use Rattle.state.specs.declared.Record.{Record}
 use Rattle.stop.specs.Stops.{Exit}
 use Rattle.place.specs.Places.{instructionAt, fitPlace}

@@ -9,7 +9,7 @@ use lib.ListN.{length, getD, take, drop, length-append, length-drop, take-append
 use lib.Seq.{take-all, drop-cons, drop-at, getD-drop}
 use Rattle.endian.specs.LittleEndian.{loadLE, bytesOf}
 use Rattle.endian.proofs.Theorems.{load-below, load-drop, length-bytes, load-bytes, bytes-load}
-use Rattle.layout.specs.StoredForm.{Field, field, lengthOf, encode, decode, bitOf, widthAt}
+use Rattle.layout.specs.StoredForm.{Field, lengthOf, encode, decode, bitOf, widthAt}
 
 -- 0 or 1
 pub bit-small : (t : Bool) → bitOf t ≤ 1
@@ -35,63 +35,63 @@ whole n xs l = elements-are n 0 xs (omega arith) ∙ take-all n xs (omega arith)
 abbrev pub ValuesFit : List Field → List ℕ → Type 0
 ValuesFit [] [] = Unit {0}
 ValuesFit [] (x ∷ values) = ⊥
-ValuesFit (field width test ∷ fields) [] = ⊥
-ValuesFit (field width test ∷ fields) (x ∷ values) = (x < 256 ^ width) × ValuesFit fields values
+ValuesFit (f ∷ fields) [] = ⊥
+ValuesFit (f ∷ fields) (x ∷ values) = (x < 256 ^ f .width) × ValuesFit fields values
 
 pub decode-encode : (fields : List Field) (values : List ℕ) → ValuesFit fields values → decode fields (encode fields values) ≡ values
 decode-encode [] [] fit = refl
 decode-encode [] (x ∷ values) fit = absurd fit
-decode-encode (field width test ∷ fields) [] fit = absurd fit
-decode-encode (field width test ∷ fields) (x ∷ values) fit =
+decode-encode (f ∷ fields) [] fit = absurd fit
+decode-encode (f ∷ fields) (x ∷ values) fit =
     let rest = encode fields values in
-    rw (load-bytes width x rest (fit .0), drop-at (bytesOf width x) rest width (length-bytes width x))
+    rw (load-bytes (f .width) x rest (fit .0), drop-at (bytesOf (f .width) x) rest (f .width) (length-bytes (f .width) x))
     (ap (λ (more : List ℕ). x ∷ more) (decode-encode fields values (fit .1)))
 
 pub encode-decode : (fields : List Field) (bytes : List ℕ) → length bytes ≡ lengthOf fields → ((k : ℕ) → getD bytes k 0 < 256)
     → encode fields (decode fields bytes) ≡ bytes
 encode-decode [] [] l h = refl
 encode-decode [] (b ∷ bytes) l h = absurd (omega arith)
-encode-decode (field width test ∷ fields) bytes l h =
-    rw (bytes-load width bytes (omega arith) h, encode-decode fields (drop width bytes) (omega (arith, length-drop width bytes)) (λ k. rw getD-drop (h (width + k))))
-    (take-append-drop width bytes)
+encode-decode (f ∷ fields) bytes l h =
+    rw (bytes-load (f .width) bytes (omega arith) h, encode-decode fields (drop (f .width) bytes) (omega (arith, length-drop (f .width) bytes)) (λ k. rw getD-drop (h (f .width + k))))
+    (take-append-drop (f .width) bytes)
 
 pub length-encode : (fields : List Field) (values : List ℕ) → ValuesFit fields values → length (encode fields values) ≡ lengthOf fields
 length-encode [] [] fit = refl
 length-encode [] (x ∷ values) fit = absurd fit
-length-encode (field width test ∷ fields) [] fit = absurd fit
-length-encode (field width test ∷ fields) (x ∷ values) fit = rw (length-append, length-bytes, length-encode fields values (fit .1))
+length-encode (f ∷ fields) [] fit = absurd fit
+length-encode (f ∷ fields) (x ∷ values) fit = rw (length-append, length-bytes, length-encode fields values (fit .1))
 
 -- a value that is read goes into its field
 pub decode-below : (fields : List Field) (i : ℕ) (bytes : List ℕ) → i < length fields → ((k : ℕ) → getD bytes k 0 < 256)
     → getD (decode fields bytes) i 0 < 256 ^ widthAt fields i
 decode-below [] i bytes l h = absurd (omega arith)
-decode-below (field width test ∷ fields) zero bytes l h = load-below width bytes 0 h
-decode-below (field width test ∷ fields) (suc i) bytes l h =
-    decode-below fields i (drop width bytes) (le-of-suc-le-suc l) (λ k. rw getD-drop (h (width + k)))
+decode-below (f ∷ fields) zero bytes l h = load-below (f .width) bytes 0 h
+decode-below (f ∷ fields) (suc i) bytes l h =
+    decode-below fields i (drop (f .width) bytes) (le-of-suc-le-suc l) (λ k. rw getD-drop (h (f .width + k)))
 
 -- ---- one field more
 
 pub decode-more : (fields : List Field) (i : ℕ) (bytes : List ℕ) → i < length fields
     → decode (take (suc i) fields) bytes ≡ decode (take i fields) bytes ++ (loadLE (widthAt fields i) bytes (lengthOf (take i fields)) ∷ [])
 decode-more [] i bytes l = absurd (omega arith)
-decode-more (field width test ∷ fields) zero bytes l = refl
-decode-more (field width test ∷ fields) (suc i) bytes l =
-    rw (decode-more fields i (drop width bytes) (le-of-suc-le-suc l), load-drop (widthAt fields i) width bytes (lengthOf (take i fields)))
+decode-more (f ∷ fields) zero bytes l = refl
+decode-more (f ∷ fields) (suc i) bytes l =
+    rw (decode-more fields i (drop (f .width) bytes) (le-of-suc-le-suc l), load-drop (widthAt fields i) (f .width) bytes (lengthOf (take i fields)))
 
 pub encode-more : (fields : List Field) (i : ℕ) (values : List ℕ) → i < length fields → i < length values
     → encode (take (suc i) fields) values ≡ encode (take i fields) values ++ bytesOf (widthAt fields i) (getD values i 0)
 encode-more [] i values l m = absurd (omega arith)
-encode-more (field width test ∷ fields) i [] l m = absurd (omega arith)
-encode-more (field width test ∷ fields) zero (x ∷ values) l m = append-nil (bytesOf width x)
-encode-more (field width test ∷ fields) (suc i) (x ∷ values) l m =
+encode-more (f ∷ fields) i [] l m = absurd (omega arith)
+encode-more (f ∷ fields) zero (x ∷ values) l m = append-nil (bytesOf (f .width) x)
+encode-more (f ∷ fields) (suc i) (x ∷ values) l m =
     rw (encode-more fields i values (le-of-suc-le-suc l) (le-of-suc-le-suc m), append-assoc)
 
 pub length-more : (fields : List Field) (i : ℕ) → i < length fields → lengthOf (take (suc i) fields) ≡ lengthOf (take i fields) + widthAt fields i
 length-more [] i l = absurd (omega arith)
-length-more (field width test ∷ fields) zero l = omega arith
-length-more (field width test ∷ fields) (suc i) l = omega (arith, length-more fields i (le-of-suc-le-suc l))
+length-more (f ∷ fields) zero l = omega arith
+length-more (f ∷ fields) (suc i) l = omega (arith, length-more fields i (le-of-suc-le-suc l))
 
 pub length-at-most : (fields : List Field) (i : ℕ) → lengthOf (take i fields) ≤ lengthOf fields
 length-at-most fields zero = omega arith
 length-at-most [] (suc i) = omega arith
-length-at-most (field width test ∷ fields) (suc i) = omega (arith, length-at-most fields i)
+length-at-most (f ∷ fields) (suc i) = omega (arith, length-at-most fields i)

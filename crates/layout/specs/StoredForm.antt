@@ -1,6 +1,6 @@
 -- The stored form of a record: 44 bytes, a list of fields from which the positions follow.
 use Prim.Native.Nat.{ℕ, _+_, _*_, _^_, zero, suc, _<_}
-use mathlib.Core.Bool.{Bool, true, false, cond, _&&_}
+use mathlib.Core.Bool.{Bool, true, false, not, cond}
 use mathlib.Core.List.{List, [], _∷_, _++_}
 use lib.Dec.{eqb, ltb, leb}
 use lib.ListN.{length, getD, take, drop}
@@ -8,83 +8,109 @@ use mathlib.Core.Path.{_≡_}
 use Rattle.bits.specs.Fields.{bit}
 use Rattle.arm.specs.declared.Flags.{Flags}
 use Rattle.endian.specs.LittleEndian.{loadLE, bytesOf}
-use Rattle.state.specs.Record.{kindOf, offsetOf, spFits}
+use Rattle.refusal.specs.Refusals.{Rule, rule, decision, isAccepted}
+use Rattle.state.specs.FitRecord.{spFits}
+use Rattle.state.specs.Record.{kindOf, offsetOf}
 use Rattle.state.specs.declared.Base.{Base}
 use Rattle.state.specs.declared.Base.the-variants.{Nothing, Ram, External}
 use Rattle.state.specs.declared.Record.{Record}
 
--- a field: its width in bytes, and its range test, which is also given the base kind
-pub data Field : Type 0 where
-  field : ℕ → (ℕ → ℕ → Bool) → Field
+-- a test of a field's value, which is also given the base kind
+abbrev pub Test : Type 0
+Test = ℕ → ℕ → Bool
 
-abbrev pub anyWord : ℕ → ℕ → Bool
-anyWord kind x = true
+-- a field: its width in bytes, the build paper's range test, and a test of the host's, whether the value is some record's, fit or not
+pub record Field : Type 0 where
+  pub width : ℕ
+  pub range : Test
+  pub stands : Test
+
+abbrev pub field : ℕ → Test → Test → Field
+field width range stands = record { width = width; range = range; stands = stands }
+
+abbrev pub anyValue : Test
+anyValue kind x = true
 
 -- as for a fit record
-abbrev pub spInRange : ℕ → ℕ → Bool
+abbrev pub spInRange : Test
 spInRange kind x = spFits x
 
 -- 0 none, 1 RAM, 2 external
-abbrev pub kindInRange : ℕ → ℕ → Bool
+abbrev pub kindInRange : Test
 kindInRange kind x = leb x 2
 
 -- by the kind: zero for none; below 2 ^ 20 in RAM; below 2 ^ 24 in external data
-abbrev pub offsetInRange : ℕ → ℕ → Bool
+abbrev pub offsetInRange : Test
 offsetInRange kind x = getD (eqb x 0 ∷ ltb x (2 ^ 20) ∷ ltb x (2 ^ 24) ∷ []) kind false
 
-abbrev pub placeInRange : ℕ → ℕ → Bool
+-- zero for none
+abbrev pub offsetStands : Test
+offsetStands kind x = getD (eqb x 0 ∷ []) kind true
+
+abbrev pub placeInRange : Test
 placeInRange kind x = leb x 127
 
-abbrev pub flagsInRange : ℕ → ℕ → Bool
+abbrev pub flagsInRange : Test
 flagsInRange kind x = leb x 15
 
 -- the build paper's stored form: r0 to r7, SP, base kind, offset, place, flags
 abbrev pub storedForm : List Field
 storedForm =
-    field 4 anyWord
-    ∷ field 4 anyWord
-    ∷ field 4 anyWord
-    ∷ field 4 anyWord
-    ∷ field 4 anyWord
-    ∷ field 4 anyWord
-    ∷ field 4 anyWord
-    ∷ field 4 anyWord
-    ∷ field 4 spInRange
-    ∷ field 1 kindInRange
-    ∷ field 4 offsetInRange
-    ∷ field 2 placeInRange
-    ∷ field 1 flagsInRange
+    field 4 anyValue anyValue
+    ∷ field 4 anyValue anyValue
+    ∷ field 4 anyValue anyValue
+    ∷ field 4 anyValue anyValue
+    ∷ field 4 anyValue anyValue
+    ∷ field 4 anyValue anyValue
+    ∷ field 4 anyValue anyValue
+    ∷ field 4 anyValue anyValue
+    ∷ field 4 spInRange anyValue
+    ∷ field 1 kindInRange kindInRange
+    ∷ field 4 offsetInRange offsetStands
+    ∷ field 2 placeInRange anyValue
+    ∷ field 1 flagsInRange flagsInRange
     ∷ []
+
+-- in bytes
+abbrev pub formLength : ℕ
+formLength = 44
 
 -- ---- values to bytes and back, lowest byte first
 
 abbrev pub lengthOf : List Field → ℕ
 lengthOf [] = 0
-lengthOf (field width test ∷ fields) = width + lengthOf fields
+lengthOf (f ∷ fields) = f .width + lengthOf fields
 
 -- the width of field i
 abbrev pub widthAt : List Field → ℕ → ℕ
 widthAt [] i = 0
-widthAt (field width test ∷ fields) zero = width
-widthAt (field width test ∷ fields) (suc i) = widthAt fields i
+widthAt (f ∷ fields) zero = f .width
+widthAt (f ∷ fields) (suc i) = widthAt fields i
 
 abbrev pub encode : List Field → List ℕ → List ℕ
 encode [] values = []
-encode (field width test ∷ fields) [] = []
-encode (field width test ∷ fields) (x ∷ values) = bytesOf width x ++ encode fields values
+encode (f ∷ fields) [] = []
+encode (f ∷ fields) (x ∷ values) = bytesOf (f .width) x ++ encode fields values
 
 abbrev pub decode : List Field → List ℕ → List ℕ
 decode [] bytes = []
-decode (field width test ∷ fields) bytes = loadLE width bytes 0 ∷ decode fields (drop width bytes)
+decode (f ∷ fields) bytes = loadLE (f .width) bytes 0 ∷ decode fields (drop (f .width) bytes)
 
-abbrev pub inRange : List Field → ℕ → List ℕ → Bool
-inRange [] kind values = true
-inRange (field width test ∷ fields) kind [] = true
-inRange (field width test ∷ fields) kind (x ∷ values) = test kind x && inRange fields kind values
+-- ---- the first field that fails a test
+
+-- a line for each field, which is refused with this number and the position of the field's first byte
+abbrev pub fieldRules : (Field → Test) → ℕ → ℕ → ℕ → List Field → List ℕ → List Rule
+fieldRules test n kind at [] values = []
+fieldRules test n kind at (f ∷ fields) [] = []
+fieldRules test n kind at (f ∷ fields) (x ∷ values) = rule (not (test f kind x)) n (at ∷ []) ∷ fieldRules test n kind (at + f .width) fields values
 
 -- the base kind is the tenth value
-abbrev pub valuesInRange : List ℕ → Bool
-valuesInRange values = inRange storedForm (getD values 9 0) values
+abbrev pub valueRules : (Field → Test) → ℕ → List ℕ → List Rule
+valueRules test n values = fieldRules test n (getD values 9 0) 0 storedForm values
+
+-- refusal 7
+abbrev pub rangeRules : List ℕ → List Rule
+rangeRules values = valueRules (λ (f : Field). f .range) 7 values
 
 -- ---- the values of a record
 
@@ -125,19 +151,20 @@ recordIn bytes = recordOf (decode storedForm bytes)
 
 -- they go to room of their length, and to no other
 abbrev pub roomWith : Record → List ℕ → List ℕ
-roomWith r room = cond (eqb (length room) 44) (recordBytes r) room
+roomWith r room = cond (eqb (length room) formLength) (recordBytes r) room
 
 -- ---- bytes of any record, fit or not: a term of the host's, which the build paper doesn't have
 
--- none, with offset zero; RAM; external; no other kind
-abbrev pub baseStands : ℕ → ℕ → Bool
-baseStands kind offset = getD (eqb offset 0 ∷ true ∷ true ∷ []) kind false
+-- a number of the library's own, which no refusal of the papers has: the values are no record's
+abbrev pub standRules : List ℕ → List Rule
+standRules values = valueRules (λ (f : Field). f .stands) 255 values
 
-abbrev pub isRecord : List ℕ → Bool
-isRecord values = baseStands (getD values 9 0) (getD values 10 0) && leb (getD values 12 0) 15
+-- nor are bytes of another length, at position 0
+abbrev pub heldRules : List ℕ → List Rule
+heldRules bytes = rule (not (eqb (length bytes) formLength)) 255 (0 ∷ []) ∷ standRules (decode storedForm bytes)
 
 abbrev pub holdsRecord : List ℕ → Bool
-holdsRecord bytes = eqb (length bytes) 44 && isRecord (decode storedForm bytes)
+holdsRecord bytes = isAccepted (decision (heldRules bytes))
 
 -- ---- the records of the code
 

@@ -5,13 +5,16 @@ ghost use lib.Dec.{eqb};
 ghost use lib.ListN.{length, getD};
 ghost use Rattle.bits.specs.Fields.{bit};
 ghost use Rattle.endian.specs.LittleEndian.{widthOf};
+ghost use Rattle.refusal.specs.Refusals.{decision, decisionOf};
 ghost use Rattle.state.specs.Record.{kindOf, offsetOf};
 ghost use Rattle.layout.specs.StoredForm.{storedForm, encode, decode};
 ghost use Rattle.layout.specs.StoredForm.{baseOf, bitOf, flagsNumber, flagsOf, valuesOf, recordOf};
-ghost use Rattle.layout.specs.StoredForm.{recordIn, roomWith, baseStands, isRecord, holdsRecord};
+ghost use Rattle.layout.specs.StoredForm.{recordIn, roomWith, offsetStands, standRules, heldRules};
 ghost use Rattle.layout.specs.StoredForm.{widthAt};
 use arm::Flags;
 use endian::Size;
+use refusal::Refusal;
+use refusal::Verdict;
 use state::Base;
 use state::Record;
 
@@ -201,31 +204,37 @@ pub fn record_in(bytes: &[u8]) -> Record
 
 // ---- bytes that hold a record, fit or not
 
-fn base_stands(kind: u32, offset: u32) -> bool
-    ensures { λ t. ⌜ t ≡ baseStands kind offset ⌝ }
+fn offset_stands(kind: u32, offset: u32) -> bool
+    ensures { λ t. ⌜ t ≡ offsetStands kind offset ⌝ }
 {
     match kind {
         0 => offset == 0,
-        1 => true,
-        2 => true,
-        _ => false,
+        _ => true,
     }
 }
 
-fn is_record(values: [u32; 13]) -> bool
-    ensures { λ t. ⌜ t ≡ isRecord values ⌝ }
+// The values are some record's, or where the first field starts that is none's.
+fn values_stand(values: [u32; 13]) -> Verdict
+    ensures { λ v. ⌜ decisionOf v ≡ decision (standRules values) ⌝ }
 {
-    if !base_stands(values[9], values[10]) {
-        return false;
+    if values[9] > 2 {
+        return Verdict::Refused(Refusal::NoRecord(36));
     }
-    values[12] <= 15
+    if !offset_stands(values[9], values[10]) {
+        return Verdict::Refused(Refusal::NoRecord(37));
+    }
+    if values[12] > 15 {
+        return Verdict::Refused(Refusal::NoRecord(43));
+    }
+    Verdict::Accepted
 }
 
-pub fn holds_record(bytes: &[u8]) -> bool
-    ensures { λ t. ⌜ t ≡ holdsRecord (now (bytes .entry)) ⌝ }
+// The bytes hold some record, or where they hold none.
+pub fn holds_record(bytes: &[u8]) -> Verdict
+    ensures { λ v. ⌜ decisionOf v ≡ decision (heldRules (now (bytes .entry))) ⌝ }
 {
     if bytes.len() != 44 {
-        return false;
+        return Verdict::Refused(Refusal::NoRecord(0));
     }
-    is_record(values_in(bytes))
+    values_stand(values_in(bytes))
 }

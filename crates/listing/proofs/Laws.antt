@@ -10,7 +10,7 @@ use lib.Dec.{ltb}
 use Rattle.refusal.specs.declared.Verdict.{Verdict}
 use Rattle.refusal.specs.declared.Verdict.the-variants.{Accepted, Refused}
 use Rattle.refusal.specs.declared.Refusal.{Refusal}
-use Rattle.refusal.specs.Refusals.{accepted, refusalNumber, decisionOf}
+use Rattle.refusal.specs.Refusals.{accepted, refusalNumber, refusalValues, decisionOf}
 use Rattle.refusal.proofs.Theorems.{passes}
 use Rattle.page.specs.Page.{pageFits, bundlesIn, firstOf, secondOf}
 use Rattle.platform.specs.Programs.{defaultProgram}
@@ -66,5 +66,5 @@ listing-accepted page e v = rw (accepted-count page e v .1) (sym (ap (listingBy 
 
 pub listing-refused : {counted : Counted} {refusal : Refusal} (page : List ℕ)
     → seenCount counted ≡ countProgram (defaultProgram page) → counted .verdict ≡ Refused refusal
-    → refusedText (refusalNumber refusal) ≡ listingOf page
+    → refusedText (refusalNumber refusal) (refusalValues refusal) ≡ listingOf page
 listing-refused page e v = sym (ap (listingBy page) (decision-is page e v))

@@ -26,7 +26,7 @@ by-fit : (page : List ℕ) (fits : Bool) → pageFits page ≡ fits
 by-fit page true e =
     simp length-append
     (omega (arith, fitting page e, head-length (bundlesIn page) (countOf (defaultProgram page)), lines-length page 0 (bundlesIn page)))
-by-fit page false e = omega (arith, refused-length 1)
+by-fit page false e = omega (arith, refused-length 1 [])
 
 pub listing-length : (page : List ℕ) → length (listingOf page) ≤ 36 * 65
 listing-length page = by-fit page (pageFits page) refl

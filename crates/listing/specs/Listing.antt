@@ -23,7 +23,7 @@ bundleLines page k (suc n) = lineOf page k ++ bundleLines page (suc k) n
 -- a page that is refused has one line
 abbrev pub listingBy : List ℕ → Decision → List ℕ
 listingBy page accepted = headText (bundlesIn page) (countOf (defaultProgram page)) ++ bundleLines page 0 (bundlesIn page)
-listingBy page (refused n values) = refusedText n
+listingBy page (refused n values) = refusedText n values
 
 abbrev pub listingOf : List ℕ → List ℕ
 listingOf page = listingBy page (countProgram (defaultProgram page) .decision)

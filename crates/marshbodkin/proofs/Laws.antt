@@ -1,92 +1,78 @@
 -- Records and runs as they cross.
 use Prim.Native.Nat.{ℕ}
-use mathlib.Core.Bool.{Bool, true, false, not, true≢false}
-use mathlib.Core.List.{List, [], _∷_}
-use lib.Dec.{eqb}
-use mathlib.Core.Path.{_≡_, refl, sym, ap, _∙_}
+use mathlib.Core.Bool.{true, false}
+use mathlib.Core.List.{List}
+use mathlib.Core.Path.{_≡_, sym, ap, _∙_}
 use lib.ListN.{length}
-use borrow.Author.Tests.{eq-eqb, ne-eqb}
+use borrow.Author.Tests.{eq-eqb}
 use Rattle.platform.specs.Programs.{Setting}
 use Rattle.state.specs.Record.{freshRecord}
 use Rattle.state.specs.declared.Record.{Record}
 use Rattle.stop.specs.Stops.{reasonOf}
 use Rattle.machine.specs.Runs.{Gives}
 use Rattle.machine.specs.declared.Answer as machine
-use Rattle.refusal.specs.Refusals.{Decision, accepted, refused, rule, decision, whenAccepted, refusalNumber, decisionOf}
+use Rattle.refusal.specs.Refusals.{Decision, accepted, decision, isAccepted, whenAccepted, decisionOf}
 use Rattle.refusal.specs.declared.Refusal.{Refusal}
 use Rattle.refusal.specs.declared.Verdict.{Verdict}
 use Rattle.refusal.specs.declared.Verdict.the-variants.{Accepted, Refused}
-use Rattle.refusal.proofs.Theorems.{in-turn}
+use Rattle.refusal.proofs.Theorems.{joined}
 use Rattle.admission.specs.RunRefusals.{areaRules}
-use Rattle.layout.specs.StoredForm.{storedForm, decode, valuesInRange, recordBytes, recordIn, roomWith, holdsRecord}
-use Rattle.layout.proofs.Theorems.{held, same-values}
-use Rattle.form.specs.Storing.{storeDecision, roomAfter, LoadAnswer, loadRecord, seenReadBack}
+use Rattle.layout.specs.StoredForm.{recordBytes, recordIn, roomWith, heldRules, holdsRecord}
+use Rattle.layout.proofs.Theorems.{held}
+use Rattle.form.specs.Storing.{LoadAnswer, loadRules, loadRecord, seenReadBack}
 use Rattle.form.specs.declared.ReadBack.{ReadBack}
-use Rattle.form.proofs.Ranges.{ranged}
-use Rattle.crossing.specs.Numbers.{codeOf, stopNumbers}
+use Rattle.form.proofs.Decisions.{by-rest}
+use Rattle.crossing.specs.Numbers.{refusedWith, stopNumbers}
 use Rattle.crossing.specs.declared.StopNumbers.{StopNumbers}
 use Rattle.marshbodkin.specs.Crossing.{formDecision, formRoom}
-use Rattle.marshbodkin.specs.HostRuns.{noRecordRules, hostRun}
+use Rattle.marshbodkin.specs.HostRuns.{Crossed, hostRun}
 
 -- ---- records
 
 module _ (bytes room : List ℕ) where
-  pub other-room : (length room ≡ 44 → ⊥) → formDecision bytes room ≡ refused 6 []
-  other-room h = rw (ne-eqb (length room) 44 h)
+  -- the decision says what becomes of the room
+  pub room-by : (d : Decision) → d ≡ formDecision bytes room → whenAccepted d (recordBytes (recordIn bytes)) room ≡ formRoom bytes room
+  room-by d e = ap (λ (w : Decision). whenAccepted w (recordBytes (recordIn bytes)) room) e
 
-  module _ (m : length room ≡ 44) where
-    pub other-length : (length bytes ≡ 44 → ⊥) → formDecision bytes room ≡ refused 6 []
-    other-length h = rw (eq-eqb (length room) 44 m, ne-eqb (length bytes) 44 h)
-
-    -- bytes that hold no record are out of range
-    pub no-record : length bytes ≡ 44 → holdsRecord bytes ≡ false → formDecision bytes room ≡ refused 7 []
-    no-record l h = rw (eq-eqb (length room) 44 m, eq-eqb (length bytes) 44 l, out (valuesInRange (decode storedForm bytes)) refl)
-      where
-        out : (t : Bool) → valuesInRange (decode storedForm bytes) ≡ t → valuesInRange (decode storedForm bytes) ≡ false
-        out true e = absurd (true≢false (sym (rw (eq-eqb (length bytes) 44 l, ranged (decode storedForm bytes) refl e)) ∙ h))
-        out false e = e
-
+  module _ (m : length room ≡ 44) (a : ReadBack) (e : seenReadBack a ≡ loadRecord bytes) where
     -- with room for it, bytes are read back as 01's call reads them
     read-decision : loadRecord bytes .decision ≡ formDecision bytes room
-    read-decision = rw (eq-eqb (length room) 44 m)
+    read-decision = by-rest (length room) (loadRules bytes) m
 
-    module _ (a : ReadBack) (e : seenReadBack a ≡ loadRecord bytes) where
-      decided : formDecision bytes room ≡ decisionOf (a .verdict)
-      decided = sym (ap (λ (x : LoadAnswer). x .decision) e ∙ read-decision)
+    pub decided : (v : Verdict) → a .verdict ≡ v → decisionOf v ≡ formDecision bytes room
+    decided v told = ap decisionOf (sym told) ∙ ap (λ (x : LoadAnswer). x .decision) e ∙ read-decision
 
-      pub not-read : (why : Refusal) → a .verdict ≡ Refused why → formDecision bytes room ≡ refused (refusalNumber why) []
-      not-read why v = decided ∙ ap decisionOf v
-
-      pub read : a .verdict ≡ Accepted → (formDecision bytes room ≡ accepted) × (roomWith (a .loaded) room ≡ formRoom bytes room)
-      read v =
-          let t : formDecision bytes room ≡ accepted = decided ∙ ap decisionOf v in
-          let loaded : a .loaded ≡ recordIn bytes =
-          ap (λ (x : LoadAnswer). x .loaded) e ∙ ap (λ (d : Decision). whenAccepted d (recordIn bytes) freshRecord) (read-decision ∙ t) in
-          let written : roomWith (a .loaded) room ≡ recordBytes (a .loaded) = rw (eq-eqb (length room) 44 m) in
-          let stands : formRoom bytes room ≡ recordBytes (recordIn bytes) = rw t in
-          (t, written ∙ ap recordBytes loaded ∙ sym stands)
-
-  -- the record that the bytes hold is stored as 01's call stores it
-  pub stored-decision : holdsRecord bytes ≡ true → storeDecision (recordIn bytes) room ≡ formDecision bytes room
-  stored-decision h =
-      let p = held bytes h in
-      ap (λ (t : Bool). decision (rule (not (eqb (length room) 44)) 6 [] ∷ rule (not t) 7 [] ∷ [])) (ap valuesInRange (same-values bytes (p .1)))
-      ∙ rw (eq-eqb (length bytes) 44 (p .0))
-
-  pub stored-room : holdsRecord bytes ≡ true → roomAfter (recordIn bytes) room ≡ formRoom bytes room
-  stored-room h = ap (λ (d : Decision). whenAccepted d (recordBytes (recordIn bytes)) room) (stored-decision h)
+    pub read : a .verdict ≡ Accepted → roomWith (a .loaded) room ≡ formRoom bytes room
+    read told =
+        let t = decided Accepted told in
+        let loaded : a .loaded ≡ recordIn bytes =
+        ap (λ (x : LoadAnswer). x .loaded) e ∙ ap (λ (d : Decision). whenAccepted d (recordIn bytes) freshRecord) (read-decision ∙ sym t) in
+        let written : roomWith (a .loaded) room ≡ recordBytes (a .loaded) = rw (eq-eqb (length room) 44 m) in
+        written ∙ ap recordBytes loaded ∙ room-by accepted t
 
 -- ---- runs
 
--- handed no record, a run is refused by its areas, or by 255
-pub no-record-code : (setting : Setting) (ram : List ℕ) (areas : Verdict) (code : ℕ)
-    → decisionOf areas ≡ decision (areaRules setting ram)
-    → code ≡ codeOf (whenAccepted (decisionOf areas) (refused 255 []) (decisionOf areas))
-    → code ≡ codeOf (decision (noRecordRules setting ram))
-no-record-code setting ram areas code e h = h ∙ rw (in-turn (areaRules setting ram) _, e)
+module _ (bytes : List ℕ) (v : Verdict) (e : decisionOf v ≡ decision (heldRules bytes)) where
+  holds : v ≡ Accepted → holdsRecord bytes ≡ true
+  holds told = ap isAccepted (sym e ∙ ap decisionOf told)
 
-pub crosses : (setting : Setting) (bytes ram : List ℕ) (total : ℕ) (r : Record) (a : machine.Answer) (numbers : StopNumbers) (room after : List ℕ)
-    → holdsRecord bytes ≡ true → r ≡ recordIn bytes → Gives setting total r ram a after → numbers ≡ stopNumbers (reasonOf (a .stop))
-    → room ≡ roomWith (a .after) bytes → record { stop = numbers; steps = a .steps; bytes = room; ram = after } ≡ hostRun setting total bytes ram
-crosses setting bytes ram total r a numbers room after holds e gives n w =
-    rw (holds, n, w, eq-eqb (length bytes) 44 (held bytes holds .0), ← e, ← gives)
+  holds-none : (why : Refusal) → v ≡ Refused why → holdsRecord bytes ≡ false
+  holds-none why told = ap isAccepted (sym e ∙ ap decisionOf told)
+
+  -- handed no record, a run is refused by its areas, or for that
+  pub no-record : (setting : Setting) (total : ℕ) (ram : List ℕ) (areas d : Decision) (why : Refusal) (numbers : StopNumbers) → v ≡ Refused why
+      → areas ≡ decision (areaRules setting ram) → d ≡ whenAccepted areas (decisionOf v) areas → numbers ≡ refusedWith d
+      → record { stop = numbers; steps = 0; bytes = bytes; ram = ram } ≡ hostRun setting total bytes ram
+  no-record setting total ram areas d why numbers told by-areas first n =
+      rw (n, holds-none why told, joined (areaRules setting ram) (heldRules bytes) d areas (decisionOf v) first by-areas e)
+
+  pub crosses : (setting : Setting) (total : ℕ) (ram : List ℕ) (r : Record) (a : machine.Answer) (numbers : StopNumbers) (room left : List ℕ)
+      → v ≡ Accepted → r ≡ recordIn bytes → Gives setting total r ram a left → numbers ≡ stopNumbers (reasonOf (a .stop))
+      → room ≡ roomWith (a .after) bytes → record { stop = numbers; steps = a .steps; bytes = room; ram = left } ≡ hostRun setting total bytes ram
+  crosses setting total ram r a numbers room left told same gives n w =
+      rw (holds told, n, w, eq-eqb (length bytes) 44 (held bytes (holds told) .0), ← same, ← gives)
+
+-- the numbers that are told for a stop
+pub told-stop : (numbers stop : StopNumbers) (steps : ℕ) (room left : List ℕ) (x : Crossed) → numbers ≡ stop
+    → record { stop = stop; steps = steps; bytes = room; ram = left } ≡ x → record { stop = numbers; steps = steps; bytes = room; ram = left } ≡ x
+told-stop numbers stop steps room left x e h = ap (λ (s : StopNumbers). record { stop = s; steps = steps; bytes = room; ram = left }) e ∙ h

@@ -1,23 +1,19 @@
 -- Records as the host's calls take and give them: in room of 44 bytes.
 use Prim.Native.Nat.{ℕ}
-use mathlib.Core.Bool.{not}
 use mathlib.Core.List.{List, [], _∷_}
-use lib.Dec.{eqb}
 use lib.ListN.{length}
-use Rattle.refusal.specs.Refusals.{Decision, Rule, rule, decision, whenAccepted}
-use Rattle.layout.specs.StoredForm.{storedForm, decode, valuesInRange, recordBytes, recordIn}
+use Rattle.refusal.specs.Refusals.{Decision, decision, whenAccepted}
+use Rattle.layout.specs.StoredForm.{recordBytes, recordIn}
+use Rattle.form.specs.Storing.{lengthRule, loadRules}
 
 -- refusal 6
-abbrev pub roomRule : List ℕ → Rule
-roomRule room = rule (not (eqb (length room) 44)) 6 []
-
 abbrev pub freshDecision : List ℕ → Decision
-freshDecision room = decision (roomRule room ∷ [])
+freshDecision room = decision (lengthRule (length room) ∷ [])
 
 -- storing a record that is given as its bytes, and reading a stored one back: any area that isn't 44 bytes is 6; bytes that are no
--- record, or one out of range, are 7
+-- record, or one out of range, are 7, with the position
 abbrev pub formDecision : List ℕ → List ℕ → Decision
-formDecision bytes room = decision (roomRule room ∷ roomRule bytes ∷ rule (not (valuesInRange (decode storedForm bytes))) 7 [] ∷ [])
+formDecision bytes room = decision (lengthRule (length room) ∷ loadRules bytes)
 
 -- refused, the room stays as it was
 abbrev pub formRoom : List ℕ → List ℕ → List ℕ

@@ -1,20 +1,22 @@
-// The calls that a host links, in C's way: one that can be refused answers 0, a refusal's number or 255, and the rest is given in lent
+// The calls that a host links, in C's way: one that can be refused answers 0 or a refusal's number, and the rest is given in lent
 // numbers and bytes. A record crosses as its 44 bytes, fit or not. Bit n of `never_return` says that direct syscall n never returns;
 // `profile` is 0, full, or 1, small; any other is refused.
 ghost use mathlib.Core.Path.{_≡_};
 ghost use lib.ListN.{length};
 ghost use Rattle.platform.specs.Platforms.{platformOf};
 ghost use Rattle.platform.specs.Programs.{programOf, settingOf};
+ghost use Rattle.refusal.specs.Refusals.{decisionOf};
 ghost use Rattle.state.specs.Record.{freshRecord};
 ghost use Rattle.state.specs.Validation.{validateBase};
 ghost use Rattle.count.specs.Count.{countProgram};
 ghost use Rattle.bundle.specs.Reader.{readBundle};
 ghost use Rattle.layout.specs.StoredForm.{roomWith};
 ghost use Rattle.crossing.specs.Exits.{decodedExit};
-ghost use Rattle.crossing.specs.Numbers.{codeOf, largestKind, largestNumber};
+ghost use Rattle.crossing.specs.Numbers.{codeOf, positionOf, largestKind, largestNumber};
 ghost use Rattle.marshbodkin.specs.Crossing.{freshDecision, formDecision, formRoom};
 ghost use Rattle.marshbodkin.specs.HostRuns.{answered, hostRun};
 ghost use Rattle.marshbodkin.specs.Version.{libraryVersion};
+use crossing::StopNumbers;
 use platform::Platform;
 use refusal::Refusal;
 use refusal::Verdict;
@@ -91,48 +93,70 @@ pub extern "C" fn mb_raw_fresh(bytes: &mut [u8]) -> u32
     }
 }
 
-// Stores a record.
-#[no_mangle]
-pub extern "C" fn mb_raw_store(bytes: &[u8], room: &mut [u8]) -> u32
-    ensures { λ code. ⌜ (code ≡ codeOf (formDecision (now (bytes .entry)) (now (room .entry))))
+// A stored form, or what is to be one, goes to the room as the record that it holds.
+fn formed(bytes: &[u8], room: &mut [u8]) -> Verdict
+    ensures { λ v. ⌜ (decisionOf v ≡ formDecision (now (bytes .entry)) (now (room .entry)))
         × (now (room .exit) ≡ formRoom (now (bytes .entry)) (now (room .entry))) ⌝ }
 {
     if room.len() != 44 {
-        return refusal::number(Refusal::FormLength) as u32;
+        return Verdict::Refused(Refusal::FormLength);
     }
-    if bytes.len() != 44 {
-        return refusal::number(Refusal::FormLength) as u32;
-    }
-    if !layout::holds_record(bytes) {
-        return refusal::number(Refusal::FormRange) as u32;
-    }
-    crossing::code_of(form::store(layout::record_in(bytes), room))
-}
-
-// Reads a record back.
-#[no_mangle]
-pub extern "C" fn mb_raw_load(stored: &[u8], bytes: &mut [u8]) -> u32
-    ensures { λ code. ⌜ (code ≡ codeOf (formDecision (now (stored .entry)) (now (bytes .entry))))
-        × (now (bytes .exit) ≡ formRoom (now (stored .entry)) (now (bytes .entry))) ⌝ }
-{
-    if bytes.len() != 44 {
-        return refusal::number(Refusal::FormLength) as u32;
-    }
-    let answer = form::load(stored);
+    let answer = form::load(bytes);
     let verdict = answer.verdict;
     let loaded = answer.loaded;
     match verdict {
         Verdict::Accepted => {
-            layout::write(loaded, bytes);
-            0
+            layout::write(loaded, room);
+            Verdict::Accepted
         }
-        Verdict::Refused(why) => refusal::number(why) as u32,
+        Verdict::Refused(why) => Verdict::Refused(why),
     }
+}
+
+// Stores a record.
+#[no_mangle]
+pub extern "C" fn mb_raw_store(bytes: &[u8], room: &mut [u8], position: &mut u32) -> u32
+    ensures { λ code. ⌜ (code ≡ codeOf (formDecision (now (bytes .entry)) (now (room .entry))))
+        × (now (position .exit) ≡ positionOf (formDecision (now (bytes .entry)) (now (room .entry))))
+        × (now (room .exit) ≡ formRoom (now (bytes .entry)) (now (room .entry))) ⌝ }
+{
+    let verdict = formed(bytes, room);
+    *position = crossing::position_of(verdict);
+    crossing::code_of(verdict)
+}
+
+// Reads a record back.
+#[no_mangle]
+pub extern "C" fn mb_raw_load(stored: &[u8], bytes: &mut [u8], position: &mut u32) -> u32
+    ensures { λ code. ⌜ (code ≡ codeOf (formDecision (now (stored .entry)) (now (bytes .entry))))
+        × (now (position .exit) ≡ positionOf (formDecision (now (stored .entry)) (now (bytes .entry))))
+        × (now (bytes .exit) ≡ formRoom (now (stored .entry)) (now (bytes .entry))) ⌝ }
+{
+    let verdict = formed(stored, bytes);
+    *position = crossing::position_of(verdict);
+    crossing::code_of(verdict)
 }
 
 // ---- steps and runs
 
-// A run with a budget. The stop is a kind with a value and a literal.
+// A stop's numbers go where they are asked for; the code comes back.
+fn tell(
+    stop: StopNumbers,
+    kind: &mut u32,
+    value: &mut u32,
+    literal: &mut u32,
+    position: &mut u32,
+) -> u32
+    ensures { λ code. ⌜ record { code = code; kind = now (kind .exit); value = now (value .exit); literal = now (literal .exit); position = now (position .exit) } ≡ stop ⌝ }
+{
+    *kind = stop.kind;
+    *value = stop.value;
+    *literal = stop.literal;
+    *position = stop.position;
+    stop.code
+}
+
+// A run with a budget. The stop is a kind with a value, a literal and a position.
 #[no_mangle]
 pub extern "C" fn mb_raw_run(
     page: &[u8],
@@ -145,41 +169,30 @@ pub extern "C" fn mb_raw_run(
     kind: &mut u32,
     value: &mut u32,
     literal: &mut u32,
+    position: &mut u32,
     steps: &mut u32,
 ) -> u32
-    ensures { λ code. ⌜ answered code (now (kind .exit)) (now (value .exit)) (now (literal .exit)) (now (steps .exit)) (now (bytes .exit)) (now (ram .exit))
+    ensures { λ code. ⌜ answered code (now (kind .exit)) (now (value .exit)) (now (literal .exit)) (now (position .exit)) (now (steps .exit)) (now (bytes .exit)) (now (ram .exit))
         ≡ hostRun (settingOf (programOf (now (page .entry)) (platformOf «never_return» profile)) (now (external .entry))) budget (now (bytes .entry)) (now (ram .entry)) ⌝ }
 {
     let platform = Platform {
         never_return,
         profile,
     };
-    if !layout::holds_record(&bytes[..]) {
+    let held = layout::holds_record(&bytes[..]);
+    if let Verdict::Refused(_) = held {
         let areas = admission::of_areas(page, platform, &ram[..], external);
-        let code = crossing::no_record_code(areas);
-        *kind = 5;
-        *value = code;
-        *literal = 0;
+        let numbers = crossing::refused_with(refusal::first_of(areas, held));
         *steps = 0;
-        return code;
+        return tell(numbers, kind, value, literal, position);
     }
-    let answer = machine::run(
-        page,
-        platform,
-        ram,
-        external,
-        layout::record_in(&bytes[..]),
-        budget,
-    );
+    let before = layout::record_in(&bytes[..]);
+    let answer = machine::run(page, platform, ram, external, before, budget);
     let stop = answer.stop;
     let after = answer.after;
     layout::write(after, bytes);
-    let numbers = crossing::numbers_of(stop);
-    *kind = numbers.kind;
-    *value = numbers.value;
-    *literal = numbers.literal;
     *steps = answer.steps;
-    numbers.code
+    tell(crossing::numbers_of(stop), kind, value, literal, position)
 }
 
 // A step is a run with budget 1.
@@ -194,9 +207,10 @@ pub extern "C" fn mb_raw_step(
     kind: &mut u32,
     value: &mut u32,
     literal: &mut u32,
+    position: &mut u32,
     steps: &mut u32,
 ) -> u32
-    ensures { λ code. ⌜ answered code (now (kind .exit)) (now (value .exit)) (now (literal .exit)) (now (steps .exit)) (now (bytes .exit)) (now (ram .exit))
+    ensures { λ code. ⌜ answered code (now (kind .exit)) (now (value .exit)) (now (literal .exit)) (now (position .exit)) (now (steps .exit)) (now (bytes .exit)) (now (ram .exit))
         ≡ hostRun (settingOf (programOf (now (page .entry)) (platformOf «never_return» profile)) (now (external .entry))) 1 (now (bytes .entry)) (now (ram .entry)) ⌝ }
 {
     mb_raw_run(
@@ -210,6 +224,7 @@ pub extern "C" fn mb_raw_step(
         kind,
         value,
         literal,
+        position,
         steps,
     )
 }
@@ -240,7 +255,7 @@ pub extern "C" fn mb_raw_exit(
 
 const MAJOR: u32 = 0;
 
-const MINOR: u32 = 4;
+const MINOR: u32 = 5;
 
 const PATCH: u32 = 0;
 

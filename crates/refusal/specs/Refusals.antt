@@ -1,13 +1,15 @@
 -- Refusals: their numbers and values, and the first one that applies to a call.
 use Prim.Native.Nat.{ℕ}
-use mathlib.Core.Bool.{Bool, cond}
+use mathlib.Core.Bool.{Bool, true, false, cond}
 use mathlib.Core.List.{List, [], _∷_}
 use Rattle.refusal.specs.declared.Refusal.{Refusal}
-use Rattle.refusal.specs.declared.Refusal.the-variants.{PageLength, RamLength, ExternalLength, UnfitRecord, UnfitPlace, FormLength, FormRange, NoSuchBundle, UnknownProfile}
+use Rattle.refusal.specs.declared.Refusal.the-variants.{PageLength, RamLength, ExternalLength, UnfitPlace, FormLength, FormRange, NoSuchBundle, UnknownProfile, SpBounds, SpAlignment, RamOffset, ExternalOffset, NoRecord}
+use Rattle.refusal.specs.declared.Carried.{Carried}
+use Rattle.refusal.specs.declared.Carried.the-variants.{Nothing, Position}
 use Rattle.refusal.specs.declared.Verdict.{Verdict}
 use Rattle.refusal.specs.declared.Verdict.the-variants.{Accepted, Refused}
 
--- what a call is told: accepted, or refused with the papers' number and the values that it carries
+-- what a call is told: accepted, or refused with a number, the papers' or the library's own 255, and the values that it carries
 pub data Decision : Type 0 where
   accepted : Decision
   refused : ℕ → List ℕ → Decision
@@ -21,6 +23,10 @@ abbrev pub decision : List Rule → Decision
 decision [] = accepted
 decision (rule test n values ∷ rules) = cond test (refused n values) (decision rules)
 
+abbrev pub isAccepted : Decision → Bool
+isAccepted accepted = true
+isAccepted (refused n values) = false
+
 -- the answer of a call that is accepted, and of one that is refused
 module _ {ℓ} {A : Type ℓ} where
   abbrev pub whenAccepted : Decision → A → A → A
@@ -33,16 +39,35 @@ abbrev pub refusalNumber : Refusal → ℕ
 refusalNumber PageLength = 1
 refusalNumber RamLength = 2
 refusalNumber ExternalLength = 3
-refusalNumber UnfitRecord = 4
 refusalNumber UnfitPlace = 5
 refusalNumber FormLength = 6
-refusalNumber FormRange = 7
+refusalNumber (FormRange position) = 7
 refusalNumber NoSuchBundle = 8
 refusalNumber UnknownProfile = 18
+refusalNumber SpBounds = 41
+refusalNumber SpAlignment = 42
+refusalNumber RamOffset = 43
+refusalNumber ExternalOffset = 44
+refusalNumber (NoRecord position) = 255
 
--- none of them carries a value
 abbrev pub refusalValues : Refusal → List ℕ
-refusalValues r = []
+refusalValues PageLength = []
+refusalValues RamLength = []
+refusalValues ExternalLength = []
+refusalValues UnfitPlace = []
+refusalValues FormLength = []
+refusalValues (FormRange position) = position ∷ []
+refusalValues NoSuchBundle = []
+refusalValues UnknownProfile = []
+refusalValues SpBounds = []
+refusalValues SpAlignment = []
+refusalValues RamOffset = []
+refusalValues ExternalOffset = []
+refusalValues (NoRecord position) = position ∷ []
+
+abbrev pub carriedValues : Carried → List ℕ
+carriedValues Nothing = []
+carriedValues (Position position) = position ∷ []
 
 abbrev pub decisionOf : Verdict → Decision
 decisionOf Accepted = accepted

@@ -6,19 +6,24 @@ use Prim.Native.Nat.{ℕ, _+_, _*_, _≤_}
 use native.Mathlib.Omega.{arith}
 use lib.ListN.{length, length-append}
 use Rattle.arm.specs.declared.Flags.{Flags}
-use Rattle.stop.specs.Stops.{direct, byLiteral, Reason, budget, service, fault, unlisted, refused}
+use Rattle.refusal.specs.Refusals.{refusalNumber, refusalValues}
+use Rattle.refusal.proofs.Theorems.{few-values}
+use Rattle.memory.specs.Faults.{faultNumber}
+use Rattle.stop.specs.Stops.{reasonOf}
+use Rattle.stop.specs.declared.Stop.{Stop}
+use Rattle.stop.specs.declared.Stop.the-variants.{Budget, Service, ServiceBy, Fault, Unlisted, Refused}
 use Rattle.text.proofs.Digits.{hex-length, decimal-length}
 use Rattle.refusal_line.proofs.Lengths.{refused-length}
 use Rattle.runner_lines.specs.Lines.{stopText, stepsText, placeText, wordsText, regsText, flagText, flagsText}
 
-pub stop-length : (reason : Reason) → length (stopText reason) ≤ 25
+pub stop-length : (stop : Stop) → length (stopText (reasonOf stop)) ≤ 30
 unfolding stopText
-stop-length budget = omega arith
-stop-length (service (direct n)) = simp length-append (omega (arith, hex-length 2 n))
-stop-length (service (byLiteral n literal)) = simp length-append (omega (arith, hex-length 2 n, hex-length 8 literal))
-stop-length (fault n) = simp length-append (omega (arith, decimal-length n))
-stop-length unlisted = omega arith
-stop-length (refused n values) = omega (arith, refused-length n)
+stop-length Budget = omega arith
+stop-length (Service n) = simp length-append (omega (arith, hex-length 2 n))
+stop-length (ServiceBy n literal) = simp length-append (omega (arith, hex-length 2 n, hex-length 8 literal))
+stop-length (Fault f) = simp length-append (omega (arith, decimal-length (faultNumber f)))
+stop-length Unlisted = omega arith
+stop-length (Refused r) = omega (arith, refused-length (refusalNumber r) (refusalValues r), few-values r)
 
 pub steps-length : (steps : ℕ) → length (stepsText steps) ≤ 17
 unfolding stepsText

@@ -19,7 +19,7 @@ stopText (service (direct n)) = serviceText n ++ newline
 stopText (service (byLiteral n literal)) = serviceText n ++ space ++ hex 8 literal ++ newline
 stopText (fault n) = bytes "stop fault " ++ decimal n ++ newline
 stopText unlisted = bytes "stop mark" ++ newline
-stopText (refused n values) = refusedText n
+stopText (refused n values) = refusedText n values
 
 -- how many steps were counted
 unfoldable pub stepsText : ℕ → List ℕ

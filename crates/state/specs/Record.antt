@@ -1,8 +1,7 @@
--- The record: its parts read and changed, the fresh record, fit records.
-use Prim.Native.Nat.{ℕ, _%_, _^_}
-use mathlib.Core.Bool.{Bool, true, false, _&&_}
+-- The record: its parts read and changed, the fresh record.
+use Prim.Native.Nat.{ℕ}
+use mathlib.Core.Bool.{false}
 use mathlib.Core.List.{List}
-use lib.Dec.{eqb, ltb, leb}
 use lib.ListN.{getD, set, replicate}
 use Rattle.arm.specs.declared.Flags.{Flags}
 use Rattle.state.specs.declared.Base.{Base}
@@ -53,19 +52,3 @@ withPlace r p = record { regs = r .regs; sp = r .sp; flags = r .flags; place = p
 
 unfoldable pub withBase : Record → Base → Record
 withBase r b = record { regs = r .regs; sp = r .sp; flags = r .flags; place = r .place; base = b }
-
--- ---- fit records
-
--- SP from 0x10000 to 0x18000 and a multiple of 4
-abbrev pub spFits : ℕ → Bool
-spFits sp = leb 0x10000 sp && leb sp 0x18000 && eqb (sp % 4) 0
-
--- a RAM offset below 2 ^ 20; an external offset below the data's length
-abbrev pub baseFits : Base → ℕ → Bool
-baseFits Nothing external = true
-baseFits (Ram o) external = ltb o (2 ^ 20)
-baseFits (External o) external = ltb o external
-
--- the build paper's fit record, given the external data's length
-unfoldable pub fitRecord : Record → ℕ → Bool
-fitRecord r external = spFits (r .sp) && baseFits (r .base) external

@@ -1,9 +1,12 @@
 // The record of the machine, by value, and base validation.
+ghost use mathlib.Core.List.{[], _∷_};
 ghost use mathlib.Core.Path.{_≡_};
 ghost use mathlib.Core.Bool.{cond};
 ghost use lib.Dec.{ltb};
 ghost use lib.ListN.{length, set};
-ghost use Rattle.state.specs.Record.{registerIn, register, withRegister, withSp, withFlags, withPlace, withBase, freshRecord, spFits, baseFits, fitRecord};
+ghost use Rattle.refusal.specs.Refusals.{decision, decisionOf};
+ghost use Rattle.state.specs.Record.{registerIn, register, withRegister, withSp, withFlags, withPlace, withBase, freshRecord};
+ghost use Rattle.state.specs.FitRecord.{spFits, boundsRule, alignmentRule, spRules, baseRules, fitRules};
 ghost use Rattle.state.specs.Validation.{externalFits, validated, validateBase, seenValidated};
 use arm::Flags;
 use refusal::Refusal;
@@ -125,39 +128,77 @@ pub fn set_base(r: Record, b: Base) -> Record
 
 // ---- fit records and validation
 
-// The base fits external data of so many bytes.
-fn base_fits(b: Base, external: usize) -> bool
-    ensures { λ t. ⌜ t ≡ baseFits b external ⌝ }
+// SP lies in RAM or at its end.
+fn bounds_verdict(sp: u32) -> Verdict
+    ensures { λ v. ⌜ decisionOf v ≡ decision (boundsRule sp ∷ []) ⌝ }
 {
-    match b {
-        Base::Nothing => true,
-        Base::Ram(o) => o < 0x10_0000,
-        Base::External(o) => (o as usize) < external,
+    if sp < 0x10000 {
+        return Verdict::Refused(Refusal::SpBounds);
     }
+    if sp > 0x18000 {
+        return Verdict::Refused(Refusal::SpBounds);
+    }
+    Verdict::Accepted
 }
 
-// SP lies in RAM or at its end, and is a multiple of 4.
+fn alignment_verdict(sp: u32) -> Verdict
+    ensures { λ v. ⌜ decisionOf v ≡ decision (alignmentRule sp ∷ []) ⌝ }
+{
+    if sp % 4 != 0 {
+        return Verdict::Refused(Refusal::SpAlignment);
+    }
+    Verdict::Accepted
+}
+
+fn sp_verdict(sp: u32) -> Verdict
+    ensures { λ v. ⌜ decisionOf v ≡ decision (spRules sp) ⌝ }
+{
+    let bounds = bounds_verdict(sp);
+    let alignment = alignment_verdict(sp);
+    refusal::first_of(bounds, alignment)
+}
+
 pub fn sp_fits(sp: u32) -> bool
     ensures { λ t. ⌜ t ≡ spFits sp ⌝ }
 {
-    if sp < 0x10000 {
-        return false;
+    let verdict = sp_verdict(sp);
+    match verdict {
+        Verdict::Accepted => true,
+        Verdict::Refused(_) => false,
     }
-    if sp > 0x18000 {
-        return false;
-    }
-    sp % 4 == 0
 }
 
-// The record is fit, with external data of so many bytes.
-pub fn is_fit(r: Record, external: usize) -> bool
-    ensures { λ t. ⌜ t ≡ fitRecord r external ⌝ }
+// The offset of the base, with external data of so many bytes.
+fn base_verdict(b: Base, external: usize) -> Verdict
+    ensures { λ v. ⌜ decisionOf v ≡ decision (baseRules b external) ⌝ }
+{
+    match b {
+        Base::Nothing => Verdict::Accepted,
+        Base::Ram(o) => {
+            if o < 0x10_0000 {
+                Verdict::Accepted
+            } else {
+                Verdict::Refused(Refusal::RamOffset)
+            }
+        }
+        Base::External(o) => {
+            if (o as usize) < external {
+                Verdict::Accepted
+            } else {
+                Verdict::Refused(Refusal::ExternalOffset)
+            }
+        }
+    }
+}
+
+// Whether the record is fit, with external data of so many bytes.
+pub fn fitness(r: Record, external: usize) -> Verdict
+    ensures { λ v. ⌜ decisionOf v ≡ decision (fitRules r external) ⌝ }
 {
     let b = r.base;
-    if !sp_fits(r.sp) {
-        return false;
-    }
-    base_fits(b, external)
+    let sp = sp_verdict(r.sp);
+    let base = base_verdict(b, external);
+    refusal::first_of(sp, base)
 }
 
 // External data has an allowed length.

@@ -202,10 +202,10 @@ fn run_lengths(platform: Platform, r: Record, page: usize, ram: usize, external:
     );
 }
 
-// Record and place are not fit either, and each call has one thing less that is refused. Lines of the input go on from here.
+// Record and place are not fit either, and each call has one thing less that is refused.
 fn refusal_order() {
-    show_line(b"# order: 18, then as numbered: 1, 2 and 3 before the rest");
-    let unfit = state::set_place(state::set_sp(state::fresh_record(), 0x17FFE), 2);
+    show_line(b"# order: 18, 1, 2, 3 before the rest");
+    let unfit = state::set_place(state::set_sp(state::fresh_record(), 0xFFFE), 2);
     let full = platform::default_platform();
     let unknown = Platform {
         never_return: 0,
@@ -215,6 +215,22 @@ fn refusal_order() {
     run_lengths(full, unfit, 2, 32767, 1);
     run_lengths(full, unfit, 4, 32767, 1);
     run_lengths(full, unfit, 4, 32768, 1);
+}
+
+// SP, base and place are not fit; from one call to the next one thing less, first with a RAM offset, then with an external one.
+fn refused_records() {
+    show_line(b"# order: 41, 42, then 43 or 44, then 5");
+    let full = platform::default_platform();
+    let placed = state::set_place(state::fresh_record(), 2);
+    let in_ram = state::set_base(placed, Base::Ram(0x10_0000));
+    let in_external = state::set_base(placed, Base::External(256));
+    run_lengths(full, state::set_sp(in_ram, 0xFFFE), 4, 32768, 256);
+    run_lengths(full, state::set_sp(in_ram, 0x17FFE), 4, 32768, 256);
+    run_lengths(full, in_ram, 4, 32768, 256);
+    run_lengths(full, state::set_sp(in_external, 0x18002), 4, 32768, 256);
+    run_lengths(full, state::set_sp(in_external, 0x10002), 4, 32768, 256);
+    run_lengths(full, in_external, 4, 32768, 256);
+    run_lengths(full, placed, 4, 32768, 256);
 }
 
 // Each alone.
@@ -365,6 +381,7 @@ fn main() {
     };
     run_lines(text::first(&input, n));
     refusal_order();
+    refused_records();
     refused_lengths();
     bases();
     two_runs();

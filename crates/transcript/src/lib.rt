@@ -43,7 +43,7 @@ pub fn write(stop: Stop, steps: u32, r: Record, room: &mut [u8]) -> Written
     ensures { λ w. ⌜ (w ≡ writtenOf (transcriptOf (reasonOf stop) steps r) (length (now (room .entry))))
         × (now (room .exit) ≡ placed (transcriptOf (reasonOf stop) steps r) (now (room .entry))) ⌝ }
 {
-    let mut text = [0u8; 25 + 17 + 17 + 77 + 11];
+    let mut text = [0u8; 30 + 17 + 17 + 77 + 11];
     let end = put_run(&mut text, stop, steps, r);
     text::place(text::first(&text, end), room)
 }

@@ -4,8 +4,10 @@ use memory::Fault;
 use memory::Loaded;
 use memory::Stored;
 use platform::Platform;
+use refusal::Refusal;
 use refusal::Verdict;
 use state::Base;
+use state::Record;
 
 fn show(text: &[u8]) {
     streams::write_output(b"vectors", text);
@@ -25,12 +27,42 @@ fn show_hex(x: u64, least: usize) {
     show(&digits[..n]);
 }
 
-fn show_verdict(verdict: Verdict) {
+fn show_refusal(refusal: Refusal) {
     let mut line = [0u8; 64];
+    let end = refusal_line::put(&mut line, 0, refusal);
+    show(text::first(&line, end));
+}
+
+fn show_verdict(verdict: Verdict) {
     if let Verdict::Refused(refusal) = verdict {
-        let end = refusal_line::put(&mut line, 0, refusal);
-        show(text::first(&line, end));
+        show_refusal(refusal);
     }
+}
+
+// ---- refusals
+
+// The line of each, in the order of their numbers, with every position that can be told.
+fn refusals() {
+    show_refusal(Refusal::PageLength);
+    show_refusal(Refusal::RamLength);
+    show_refusal(Refusal::ExternalLength);
+    show_refusal(Refusal::UnfitPlace);
+    show_refusal(Refusal::FormLength);
+    show_refusal(Refusal::FormRange(32));
+    show_refusal(Refusal::FormRange(36));
+    show_refusal(Refusal::FormRange(37));
+    show_refusal(Refusal::FormRange(41));
+    show_refusal(Refusal::FormRange(43));
+    show_refusal(Refusal::NoSuchBundle);
+    show_refusal(Refusal::UnknownProfile);
+    show_refusal(Refusal::SpBounds);
+    show_refusal(Refusal::SpAlignment);
+    show_refusal(Refusal::RamOffset);
+    show_refusal(Refusal::ExternalOffset);
+    show_refusal(Refusal::NoRecord(0));
+    show_refusal(Refusal::NoRecord(36));
+    show_refusal(Refusal::NoRecord(37));
+    show_refusal(Refusal::NoRecord(43));
 }
 
 // ---- pages
@@ -185,6 +217,69 @@ fn bases() {
     validate(0x10000, b"\x00");
 }
 
+// ---- stored forms
+
+fn change(bytes: &mut [u8], position: usize, b: u8) {
+    if position < bytes.len() {
+        bytes[position] = b;
+    }
+}
+
+// The fresh record's form with one byte changed, and its last one, the flags.
+fn read_back(position: usize, b: u8, last: u8) {
+    let mut bytes = [0u8; 44];
+    show_verdict(form::store(state::fresh_record(), &mut bytes));
+    change(&mut bytes, position, b);
+    change(&mut bytes, 43, last);
+    let answer = form::load(&bytes);
+    let verdict = answer.verdict;
+    show(b"byte");
+    show_number(position as u64);
+    show(b" ");
+    show_hex(b as u64, 2);
+    show(b" flags ");
+    show_hex(last as u64, 2);
+    show(b"\n");
+    show_verdict(verdict);
+}
+
+fn store_record(r: Record) {
+    let mut room = [0u8; 44];
+    show_verdict(form::store(r, &mut room));
+}
+
+// SP in bounds and no multiple of 4, offsets and a place out of range, of which each record has one less.
+fn not_stored() {
+    let placed = state::set_place(state::fresh_record(), 128);
+    let in_ram = state::set_base(placed, Base::Ram(0x10_0000));
+    let in_external = state::set_base(placed, Base::External(0x100_0000));
+    store_record(state::set_sp(in_ram, 0x10002));
+    store_record(in_ram);
+    store_record(state::set_sp(in_external, 0xFFFC));
+    store_record(in_external);
+    store_record(placed);
+}
+
+fn stored_forms() {
+    // r0; SP 0x18002, 0x18004 and 0x8000, the last with flags out of range too
+    read_back(0, 255, 15);
+    read_back(32, 2, 0);
+    read_back(32, 4, 0);
+    read_back(34, 0, 16);
+    // an unknown kind, and an offset with none
+    read_back(36, 3, 16);
+    read_back(37, 1, 16);
+    // a place of 127 and of 128, and flags
+    read_back(41, 127, 15);
+    read_back(41, 128, 16);
+    read_back(41, 127, 16);
+    // a room and a form that are not 44 bytes
+    show_verdict(form::store(state::fresh_record(), &mut [0u8; 43]));
+    let answer = form::load(&[0u8; 45]);
+    let verdict = answer.verdict;
+    show_verdict(verdict);
+}
+
 // ---- edges of memory
 
 fn show_fault(fault: Fault) {
@@ -276,11 +371,14 @@ fn external_edges() {
 }
 
 fn main() {
+    refusals();
     pages();
     page_refusals();
     sets();
     profiles();
     bases();
+    stored_forms();
+    not_stored();
     ram_edges();
     external_edges();
 }

@@ -1,17 +1,16 @@
-use mathlib.Core.Path.{sym, _∙_}
-use borrow.Author.Tests.{not-true, not-false}
+use Rattle.admission.specs.RunRefusals.{placeRule}
+use Rattle.state.specs.FitRecord.{fitRules}
+use Rattle.refusal.proofs.Theorems.{joined}
+use Rattle.platform.specs.Programs.{programOf}
+use lib.ListN.{length}
+use mathlib.Core.List.{[], _∷_}
 use borrow.Author.Needs.{needs}
 use Rattle.admission.proofs.of_record.Statement.{statement}
 use Rattle.admission.proofs.of_record.Tie as tie
 
 returns : tie.Need-returns
-returns c = rw (sym (c .before .is-fit .ensures) ∙ not-true _ (c .if1 .taken))
-
-returns-2 : tie.Need-returns-2
-returns-2 c = rw (sym (c .before .before .before .is-fit .ensures) ∙ not-false _ (c .before .before .if1 .left), sym (c .before .is-fit2 .ensures) ∙ not-true _ (c .if2 .taken))
-
-returns-3 : tie.Need-returns-3
-returns-3 c = rw (sym (c .before .before .before .is-fit .ensures) ∙ not-false _ (c .before .before .if1 .left), sym (c .before .is-fit2 .ensures) ∙ not-false _ (c .if2 .left))
+returns c = let s = c .before .before .before .before .before .args in joined (fitRules (s .r) (length (s .external .now))) (placeRule (programOf (s .page .now) (s .platform)) (s .r .place) ∷ []) _ _ _ (c .first-of .ensures) (c .before .before .fitness .ensures) (c .before .of-place .ensures)
 
 pub of-record-spec : {M : Type 1} → statement M
-of-record-spec = tie.close (tie.spec (λ c κs. tt) returns (λ c κs. tt) returns-2 returns-3)
+of-record-spec = tie.close (tie.spec (λ c. search needs) (λ c. search needs) (λ c. search needs)
+    returns)

@@ -1,7 +1,6 @@
 use mathlib.Core.Path.{_≡_}
 use lib.ListN.{length}
 use borrow.Author.Needs.{needs}
-use Rattle.stop.specs.Stops.{reasonOf}
 use Rattle.text.proofs.Laws.{whole}
 use Rattle.transcript.proofs.Lengths.{transcript-length}
 use Rattle.transcript.proofs.write.Statement.{statement}
@@ -12,7 +11,7 @@ returns c =
     let put = c .before .before .before .before .before .before .before in
     let args = put .before .before .before .args in
     let eight : length (args .r .regs) ≡ 8 = search needs in
-    let short = transcript-length (reasonOf (args .stop)) (args .steps) (args .r) eight in
+    let short = transcript-length (args .stop) (args .steps) (args .r) eight in
     let text = whole short (put .put-run .ensures) in
     rw (c .before .before .before .before .first .ensures, text .1) at (c .before .before .place .ensures)
 

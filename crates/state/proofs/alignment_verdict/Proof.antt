@@ -1,0 +1,12 @@
+use borrow.Author.Tests.{eq-eqb, ne-eqb}
+use Rattle.state.proofs.alignment_verdict.Statement.{statement}
+use Rattle.state.proofs.alignment_verdict.Tie as tie
+
+returns : tie.Need-returns
+returns c = rw (ne-eqb _ _ (c .if1 .taken))
+
+returns-2 : tie.Need-returns-2
+returns-2 c = rw (eq-eqb _ _ (c .if1 .left))
+
+pub alignment-verdict-spec : {M : Type 1} → statement M
+alignment-verdict-spec = tie.close (tie.spec returns returns-2)
