@@ -53,11 +53,21 @@ static void give_up(const char *why, const char *words)
     exit(1);
 }
 
-static void require(uint32_t answer)
+/* A refusal in words, with the field of the record where one is told: 0 is r0's position, and no refusal's. */
+static void tell_refusal(FILE *to, uint32_t number, uint32_t position)
+{
+    if (position == 0)
+        fprintf(to, "refused %u: %s\n", number, mb_refusal_words(number));
+    else
+        fprintf(to, "refused %u %u: %s at %s\n", number, position, mb_refusal_words(number), mb_field_words(position));
+}
+
+static void require(uint32_t answer, uint32_t position)
 {
     if (answer == MB_ACCEPTED)
         return;
-    fprintf(stderr, "host: refused %u: %s\n", answer, mb_refusal_words(answer));
+    fprintf(stderr, "host: ");
+    tell_refusal(stderr, answer, position);
     exit(1);
 }
 
@@ -165,16 +175,35 @@ static void cycle(host *h, unsigned first, unsigned number)
     h->record.r[7] = number;
     h->steps = 0;
     do {
-        require(mb_run(&h->setting, h->ram, sizeof h->ram, &h->record, SLICE, &stopped));
+        uint32_t answer = mb_run(&h->setting, h->ram, sizeof h->ram, &h->record, SLICE, &stopped);
+        require(answer, stopped.position);
         h->steps += stopped.steps;
         if (h->steps > MOST_STEPS)
             give_up("the filter does not end", "");
     } while (goes_on(h, &stopped));
 }
 
+/* Between cycles the record is 44 bytes, which a file or a link would take. What is damaged on the way and out of range then
+ * is told by its field, here SP; the record stays as it was, and the bytes are sent once more. */
+static void over_a_link(mb_record *record)
+{
+    uint8_t sent[MB_RECORD_BYTES];
+    mb_refused refused;
+    mb_store(record, sent, sizeof sent, &refused);
+    require(refused.number, refused.position);
+    sent[MB_AT_SP] ^= 1;
+    if (mb_load(sent, sizeof sent, record, &refused) != MB_ACCEPTED) {
+        printf("damaged: ");
+        tell_refusal(stdout, refused.number, refused.position);
+    }
+    sent[MB_AT_SP] ^= 1;
+    mb_load(sent, sizeof sent, record, &refused);
+    require(refused.number, refused.position);
+}
+
 int main(int count, char **words)
 {
-    static uint8_t page[MB_PAGE_MOST + 1], external[MB_EXTERNAL_PAGE_BYTES], stored[MB_RECORD_BYTES];
+    static uint8_t page[MB_PAGE_MOST + 1], external[MB_EXTERNAL_PAGE_BYTES];
     static host h;
     uint32_t counted;
     if (mb_version() != MB_VERSION)
@@ -184,16 +213,14 @@ int main(int count, char **words)
     put_pairs(external);
     h.setting = mb_setting_of(mb_program_of(page, read_page(words[1], page)), external, sizeof external);
     h.setting.program.never_return = mb_syscall_bit(ABORT);
-    require(mb_count(&h.setting.program, &counted));
+    require(mb_count(&h.setting.program, &counted), 0);
     printf("count %u of %u bundles\n", counted, (unsigned)(h.setting.program.page_length / MB_BUNDLE_BYTES));
     h.record = mb_fresh();
     h.record.r[1] = fixed(6);
     h.record.r[2] = fixed(-126);
     printf("cycle 1\n");
     cycle(&h, 0, 5);
-    /* Between cycles the record is 44 bytes, which a file or a link would take. */
-    require(mb_store(&h.record, stored, sizeof stored, NULL));
-    require(mb_load(stored, sizeof stored, &h.record, NULL));
+    over_a_link(&h.record);
     printf("cycle 2\n");
     cycle(&h, 30, 3); /* the host's mistake: two pairs are left */
     printf("cycle 3\n");

@@ -37,9 +37,14 @@
 
 /* The version of this header, which is for the archive of the same version. Hold
  * it against mb_version() before any other call: the archive of another version
- * takes other arguments, and the linker doesn't see it. */
+ * takes other arguments, and the linker doesn't see it.
+ *
+ * A host of 0.4 is compiled anew, since mb_stopped and mb_refused have a field more.
+ * Its text changes where it names MB_REFUSED_UNFIT_RECORD (4), which is gone: 41 to
+ * 44 stand in its place. mb_raw_store, mb_raw_load, mb_raw_run and mb_raw_step take
+ * a number more, the position. */
 #define MB_VERSION_MAJOR 0
-#define MB_VERSION_MINOR 4
+#define MB_VERSION_MINOR 5
 #define MB_VERSION_PATCH 0
 #define MB_VERSION (65536u * MB_VERSION_MAJOR + 256u * MB_VERSION_MINOR + MB_VERSION_PATCH)
 
@@ -70,15 +75,31 @@ enum {
     MB_REFUSED_PAGE_LENGTH = 1,
     MB_REFUSED_RAM_LENGTH = 2,
     MB_REFUSED_EXTERNAL_LENGTH = 3,
-    MB_REFUSED_UNFIT_RECORD = 4,
     MB_REFUSED_UNFIT_PLACE = 5,
     MB_REFUSED_FORM_LENGTH = 6,
-    MB_REFUSED_FORM_RANGE = 7,
+    MB_REFUSED_FORM_RANGE = 7,         /* with the position of the field */
     MB_REFUSED_NO_SUCH_BUNDLE = 8,
     MB_REFUSED_UNKNOWN_PROFILE = 18,
-    /* The library's own, of a step and a run: a base kind above 2, or an offset
-     * with MB_BASE_NONE. It stands after 18, 1, 2 and 3, before 4. */
+    MB_REFUSED_SP_BOUNDS = 41,         /* below 0x10000 or above 0x18000 */
+    MB_REFUSED_SP_ALIGNMENT = 42,      /* no multiple of 4 */
+    MB_REFUSED_RAM_OFFSET = 43,        /* 2^20 or more */
+    MB_REFUSED_EXTERNAL_OFFSET = 44,   /* not below the external data's length */
+    /* The library's own, of a step and a run: a base kind above 2 (at position
+     * MB_AT_BASE_KIND), or an offset with MB_BASE_NONE (at MB_AT_BASE_OFFSET). It
+     * stands after 18, 1, 2 and 3, before 41. */
     MB_REFUSED_NO_RECORD = 255
+};
+
+/* Positions: where the fields of a record begin in its 44 bytes. With 7 and 255 a
+ * call tells that of the first field that fails, which r0 to r7 never do; so 0 is
+ * what it gives where it tells no field. */
+enum {
+    MB_AT_R0 = 0, /* r1 to r7 every four bytes */
+    MB_AT_SP = 32,
+    MB_AT_BASE_KIND = 36,
+    MB_AT_BASE_OFFSET = 37,
+    MB_AT_PLACE = 41,
+    MB_AT_FLAGS = 43 /* 8N + 4Z + 2C + V */
 };
 
 /* Profiles: which of the listed encodings there are. Any other number is refused (18). */
@@ -100,7 +121,7 @@ enum {
     MB_STOP_SERVICE_BY_LITERAL = 2, /* value: low byte; literal: the word */
     MB_STOP_FAULT = 3,              /* value: one of MB_FAULT_* */
     MB_STOP_UNLISTED = 4,           /* proved never to come */
-    MB_STOP_REFUSED = 5             /* value: what the call answers */
+    MB_STOP_REFUSED = 5             /* value: what the call answers; position with 255 */
 };
 
 /* 01's faults. */
@@ -151,28 +172,33 @@ uint32_t mb_raw_validate(uint32_t v, const uint8_t *external, size_t external_le
 /* Refused (6): the length isn't 44. */
 uint32_t mb_raw_fresh(uint8_t *record, size_t record_length);
 
+/* This call and the three below write *position whatever they answer: with 7 and
+ * 255 that of the first field that fails, else 0, with 255 too where the bytes
+ * aren't 44. Refused (6, 7), as mb_store and mb_load; the record's length is tested
+ * too (6). */
 uint32_t mb_raw_store(const uint8_t *record, size_t record_length,
-                      uint8_t *room, size_t room_length);
+                      uint8_t *room, size_t room_length, uint32_t *position);
 
 uint32_t mb_raw_load(const uint8_t *stored, size_t stored_length,
-                     uint8_t *record, size_t record_length);
+                     uint8_t *record, size_t record_length, uint32_t *position);
 
 /* The record crosses without the stored form's range tests, so that one that
- * isn't fit is refused by 4 or 5. Bytes that hold no record (255) are not 44, or
- * have a base kind above 2, an offset though the kind is none, or flags above 15. */
+ * isn't fit is refused by 41 to 44 or 5. Bytes that hold no record (255) are not 44
+ * (position 0), or have a base kind above 2 (36), an offset though the kind is none
+ * (37), or flags above 15 (43). */
 uint32_t mb_raw_run(const uint8_t *page, size_t page_length, uint64_t never_return,
                     uint32_t profile, uint8_t *ram, size_t ram_length,
                     const uint8_t *external, size_t external_length,
                     uint8_t *record, size_t record_length, uint32_t budget,
                     uint32_t *kind, uint32_t *value, uint32_t *literal,
-                    uint32_t *steps);
+                    uint32_t *position, uint32_t *steps);
 
 uint32_t mb_raw_step(const uint8_t *page, size_t page_length, uint64_t never_return,
                      uint32_t profile, uint8_t *ram, size_t ram_length,
                      const uint8_t *external, size_t external_length,
                      uint8_t *record, size_t record_length,
                      uint32_t *kind, uint32_t *value, uint32_t *literal,
-                     uint32_t *steps);
+                     uint32_t *position, uint32_t *steps);
 
 void mb_raw_exit(uint32_t low, uint32_t literal,
                  uint32_t *kind, uint32_t *number, uint32_t *immediate,
@@ -225,6 +251,7 @@ typedef struct {
 typedef struct {
     uint32_t kind; /* one of MB_STOP_* */
     uint32_t value, literal; /* 0 where the kind carries none */
+    uint32_t position; /* one of MB_AT_* where the answer is 255, else 0 */
     uint32_t steps;
 } mb_stopped;
 
@@ -235,9 +262,10 @@ typedef struct {
     uint32_t largest; /* the largest successor, 0 if there is none */
 } mb_reading;
 
-/* What a store or load says: the number that it answers. Later, where. */
+/* What a store or load says: the number that it answers, and where in the record. */
 typedef struct {
     uint32_t number;
+    uint32_t position; /* one of MB_AT_* where the number is 7, else 0 */
 } mb_refused;
 
 /* A part that the kind doesn't name is 0. */
@@ -277,46 +305,39 @@ static inline uint32_t mb_internal_get(const uint8_t *bytes, size_t width)
     return value;
 }
 
-/* Where the parts of a record stand in its 44 bytes, r0 to r7 first. */
-enum {
-    MB_INTERNAL_AT_SP = 32,
-    MB_INTERNAL_AT_KIND = 36,
-    MB_INTERNAL_AT_OFFSET = 37,
-    MB_INTERNAL_AT_PLACE = 41,
-    MB_INTERNAL_AT_FLAGS = 43 /* 8N + 4Z + 2C + V */
-};
-
 static inline void mb_internal_pack(const mb_record *record, uint8_t *bytes)
 {
     uint32_t flags = (record->n ? 8u : 0u) | (record->z ? 4u : 0u) | (record->c ? 2u : 0u) | (record->v ? 1u : 0u);
     for (size_t i = 0; i < 8; i++)
-        mb_internal_put(bytes + 4 * i, 4, record->r[i]);
-    mb_internal_put(bytes + MB_INTERNAL_AT_SP, 4, record->sp);
-    mb_internal_put(bytes + MB_INTERNAL_AT_KIND, 1, record->base.kind);
-    mb_internal_put(bytes + MB_INTERNAL_AT_OFFSET, 4, record->base.offset);
-    mb_internal_put(bytes + MB_INTERNAL_AT_PLACE, 2, record->place);
-    mb_internal_put(bytes + MB_INTERNAL_AT_FLAGS, 1, flags);
+        mb_internal_put(bytes + MB_AT_R0 + 4 * i, 4, record->r[i]);
+    mb_internal_put(bytes + MB_AT_SP, 4, record->sp);
+    mb_internal_put(bytes + MB_AT_BASE_KIND, 1, record->base.kind);
+    mb_internal_put(bytes + MB_AT_BASE_OFFSET, 4, record->base.offset);
+    mb_internal_put(bytes + MB_AT_PLACE, 2, record->place);
+    mb_internal_put(bytes + MB_AT_FLAGS, 1, flags);
 }
 
 static inline void mb_internal_unpack(const uint8_t *bytes, mb_record *record)
 {
-    uint32_t flags = mb_internal_get(bytes + MB_INTERNAL_AT_FLAGS, 1);
+    uint32_t flags = mb_internal_get(bytes + MB_AT_FLAGS, 1);
     for (size_t i = 0; i < 8; i++)
-        record->r[i] = mb_internal_get(bytes + 4 * i, 4);
-    record->sp = mb_internal_get(bytes + MB_INTERNAL_AT_SP, 4);
-    record->base.kind = (uint8_t)mb_internal_get(bytes + MB_INTERNAL_AT_KIND, 1);
-    record->base.offset = mb_internal_get(bytes + MB_INTERNAL_AT_OFFSET, 4);
-    record->place = (uint16_t)mb_internal_get(bytes + MB_INTERNAL_AT_PLACE, 2);
+        record->r[i] = mb_internal_get(bytes + MB_AT_R0 + 4 * i, 4);
+    record->sp = mb_internal_get(bytes + MB_AT_SP, 4);
+    record->base.kind = (uint8_t)mb_internal_get(bytes + MB_AT_BASE_KIND, 1);
+    record->base.offset = mb_internal_get(bytes + MB_AT_BASE_OFFSET, 4);
+    record->place = (uint16_t)mb_internal_get(bytes + MB_AT_PLACE, 2);
     record->n = (flags & 8u) != 0;
     record->z = (flags & 4u) != 0;
     record->c = (flags & 2u) != 0;
     record->v = (flags & 1u) != 0;
 }
 
-static inline uint32_t mb_internal_said(uint32_t answer, mb_refused *refused)
+static inline uint32_t mb_internal_said(uint32_t answer, uint32_t position, mb_refused *refused)
 {
-    if (refused != NULL)
+    if (refused != NULL) {
         refused->number = answer;
+        refused->position = position;
+    }
     return answer;
 }
 
@@ -365,6 +386,7 @@ static inline mb_stopped mb_nothing_run(void)
     stopped.kind = MB_STOP_BUDGET;
     stopped.value = 0;
     stopped.literal = 0;
+    stopped.position = 0;
     stopped.steps = 0;
     return stopped;
 }
@@ -406,28 +428,33 @@ static inline uint32_t mb_validate(const mb_setting *setting, uint32_t address, 
 }
 
 /* Stores a record in a room of MB_RECORD_BYTES bytes. Refused: the room has
- * another length (6); the record is out of range (7). */
+ * another length (6); the record is out of range (7), at the position that refused
+ * then has. */
 static inline uint32_t mb_store(const mb_record *record, uint8_t *room, size_t room_length, mb_refused *refused)
 {
     uint8_t bytes[MB_RECORD_BYTES], own = 0;
+    uint32_t answer, position = 0;
     mb_internal_pack(record, bytes);
-    return mb_internal_said(mb_raw_store(bytes, sizeof bytes, mb_internal_written(room, room_length, &own), room_length),
-                            refused);
+    answer = mb_raw_store(bytes, sizeof bytes, mb_internal_written(room, room_length, &own), room_length, &position);
+    return mb_internal_said(answer, position, refused);
 }
 
 /* Reads a stored record back. Refused: the stored form has another length (6);
- * the record in it is out of range (7). */
+ * the record in it is out of range (7), at the position that refused then has. */
 static inline uint32_t mb_load(const uint8_t *stored, size_t stored_length, mb_record *record, mb_refused *refused)
 {
     uint8_t bytes[MB_RECORD_BYTES];
     const uint8_t own = 0;
-    uint32_t answer = mb_raw_load(mb_internal_read(stored, stored_length, &own), stored_length, bytes, sizeof bytes);
+    uint32_t position = 0;
+    uint32_t answer = mb_raw_load(mb_internal_read(stored, stored_length, &own), stored_length, bytes, sizeof bytes,
+                                  &position);
     if (answer == MB_ACCEPTED)
         mb_internal_unpack(bytes, record);
-    return mb_internal_said(answer, refused);
+    return mb_internal_said(answer, position, refused);
 }
 
-/* Runs a record with a budget of steps. Refused (18, 1, 2, 3, 255, 4, 5): 0 steps. */
+/* Runs a record with a budget of steps. Refused (18, 1, 2, 3, 255, 41, 42, 43, 44, 5):
+ * 0 steps. */
 static inline uint32_t mb_run(const mb_setting *setting, uint8_t *ram, size_t ram_length,
                               mb_record *record, uint32_t budget, mb_stopped *stopped)
 {
@@ -440,7 +467,7 @@ static inline uint32_t mb_run(const mb_setting *setting, uint8_t *ram, size_t ra
                         mb_internal_written(ram, ram_length, &own[1]), ram_length,
                         mb_internal_read(setting->external, setting->external_length, &own[2]),
                         setting->external_length, bytes, sizeof bytes, budget,
-                        &stopped->kind, &stopped->value, &stopped->literal, &stopped->steps);
+                        &stopped->kind, &stopped->value, &stopped->literal, &stopped->position, &stopped->steps);
     mb_internal_unpack(bytes, record);
     return answer;
 }
@@ -477,13 +504,37 @@ static inline const char *mb_refusal_words(uint32_t number)
     case MB_REFUSED_PAGE_LENGTH: return "page is above 256 bytes or no multiple of 4";
     case MB_REFUSED_RAM_LENGTH: return "RAM is not 32768 bytes";
     case MB_REFUSED_EXTERNAL_LENGTH: return "external data is above 16777216 bytes or no multiple of 256";
-    case MB_REFUSED_UNFIT_RECORD: return "record is not fit";
     case MB_REFUSED_UNFIT_PLACE: return "place is not fit";
     case MB_REFUSED_FORM_LENGTH: return "stored form, or the room lent for it, is not 44 bytes";
     case MB_REFUSED_FORM_RANGE: return "stored or given record is out of range";
     case MB_REFUSED_NO_SUCH_BUNDLE: return "asked bundle is not in the page";
     case MB_REFUSED_UNKNOWN_PROFILE: return "unknown profile";
+    case MB_REFUSED_SP_BOUNDS: return "SP is below 0x10000 or above 0x18000";
+    case MB_REFUSED_SP_ALIGNMENT: return "SP is no multiple of 4";
+    case MB_REFUSED_RAM_OFFSET: return "RAM offset is not below 2^20";
+    case MB_REFUSED_EXTERNAL_OFFSET: return "external offset is not below the external data's length";
     case MB_REFUSED_NO_RECORD: return "bytes hold no record";
+    default: return "unknown";
+    }
+}
+
+/* The field of a record that begins at a position; of a refusal's, where it isn't 0. */
+static inline const char *mb_field_words(uint32_t position)
+{
+    switch (position) {
+    case MB_AT_R0: return "r0";
+    case MB_AT_R0 + 4: return "r1";
+    case MB_AT_R0 + 8: return "r2";
+    case MB_AT_R0 + 12: return "r3";
+    case MB_AT_R0 + 16: return "r4";
+    case MB_AT_R0 + 20: return "r5";
+    case MB_AT_R0 + 24: return "r6";
+    case MB_AT_R0 + 28: return "r7";
+    case MB_AT_SP: return "SP";
+    case MB_AT_BASE_KIND: return "base kind";
+    case MB_AT_BASE_OFFSET: return "base offset";
+    case MB_AT_PLACE: return "place";
+    case MB_AT_FLAGS: return "flags";
     default: return "unknown";
     }
 }

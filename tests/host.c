@@ -105,7 +105,7 @@ struct answer {
     mb_stopped stopped;
 };
 
-static const mb_stopped stale_stop = {STALE, STALE, STALE, STALE};
+static const mb_stopped stale_stop = {STALE, STALE, STALE, STALE, STALE};
 
 static struct answer run(uint32_t budget)
 {
@@ -129,7 +129,7 @@ static struct answer raw_run(uint8_t *bytes, size_t length)
     struct answer a = {STALE, stale_stop};
     mb_stopped *s = &a.stopped;
     a.code = mb_raw_run(lent.page, page_length, never_return, profile, lent.ram, ram_length, lent.external, external_length,
-                        bytes, length, 10, &s->kind, &s->value, &s->literal, &s->steps);
+                        bytes, length, 10, &s->kind, &s->value, &s->literal, &s->position, &s->steps);
     return a;
 }
 
@@ -138,7 +138,7 @@ static struct answer raw_step(uint8_t *bytes, size_t length)
     struct answer a = {STALE, stale_stop};
     mb_stopped *s = &a.stopped;
     a.code = mb_raw_step(lent.page, page_length, never_return, profile, lent.ram, ram_length, lent.external, external_length,
-                         bytes, length, &s->kind, &s->value, &s->literal, &s->steps);
+                         bytes, length, &s->kind, &s->value, &s->literal, &s->position, &s->steps);
     return a;
 }
 
@@ -148,51 +148,53 @@ static void check_answer(int line, struct answer a, uint32_t code, mb_stopped ex
     check(line, "kind", a.stopped.kind, expected.kind);
     check(line, "value", a.stopped.value, expected.value);
     check(line, "literal", a.stopped.literal, expected.literal);
+    check(line, "position", a.stopped.position, expected.position);
     check(line, "steps", a.stopped.steps, expected.steps);
 }
 
 #define STOPS(got, kind, value, literal, steps) \
-    check_answer(__LINE__, (got), MB_ACCEPTED, (mb_stopped){(kind), (value), (literal), (steps)})
+    check_answer(__LINE__, (got), MB_ACCEPTED, (mb_stopped){(kind), (value), (literal), 0, (steps)})
 
 /* What was refused left everything as it was kept. */
-static void check_refusal(int line, struct answer a, uint32_t code)
+static void check_refusal(int line, struct answer a, uint32_t code, uint32_t position)
 {
-    check_answer(line, a, code, (mb_stopped){MB_STOP_REFUSED, code, 0, 0});
+    check_answer(line, a, code, (mb_stopped){MB_STOP_REFUSED, code, 0, position, 0});
     check(line, "changed", changed(), 0);
 }
 
 /* The proved step and run are refused on such bytes, and leave them as they were. */
-static void check_bytes_refused(int line, const uint8_t *bytes, size_t length, uint32_t code)
+static void check_bytes_refused(int line, const uint8_t *bytes, size_t length, uint32_t code, uint32_t position)
 {
     uint8_t given[MB_RECORD_BYTES + 1], given_before[sizeof given];
     memset(given, 0x5A, sizeof given);
     memcpy(given, bytes, length);
     memcpy(given_before, given, sizeof given);
-    check_refusal(line, raw_run(given, length), code);
+    check_refusal(line, raw_run(given, length), code, position);
     check(line, "bytes changed by the run", memcmp(given, given_before, sizeof given) != 0, 0);
-    check_refusal(line, raw_step(given, length), code);
+    check_refusal(line, raw_step(given, length), code, position);
     check(line, "bytes changed by the step", memcmp(given, given_before, sizeof given) != 0, 0);
 }
 
-#define BYTES_REFUSED(bytes, length, code) check_bytes_refused(__LINE__, (bytes), (length), (code))
+#define BYTES_REFUSED(bytes, length, code, position) check_bytes_refused(__LINE__, (bytes), (length), (code), (position))
 
 /* A step and a run are refused, the header's and the proved ones. */
-static void check_refused(int line, uint32_t code)
+static void check_refused(int line, uint32_t code, uint32_t position)
 {
     uint8_t bytes[MB_RECORD_BYTES];
     keep();
-    check_refusal(line, run(10), code);
-    check_refusal(line, step(), code);
+    check_refusal(line, run(10), code, position);
+    check_refusal(line, step(), code, position);
     mb_internal_pack(&record, bytes);
-    check_bytes_refused(line, bytes, sizeof bytes, code);
+    check_bytes_refused(line, bytes, sizeof bytes, code, position);
 }
 
-#define REFUSED(code) check_refused(__LINE__, (code))
+#define REFUSED_AT(code, position) check_refused(__LINE__, (code), (position))
+#define REFUSED(code) REFUSED_AT(code, 0)
 
 /* A step and a run fault at their first instruction, and leave everything as it was. */
 static void check_fault(int line, uint32_t number)
 {
-    mb_stopped expected = {MB_STOP_FAULT, number, 0, 0};
+    mb_stopped expected = {MB_STOP_FAULT, number, 0, 0, 0};
     keep();
     check_answer(line, run(10), MB_ACCEPTED, expected);
     check_answer(line, step(), MB_ACCEPTED, expected);
@@ -201,25 +203,57 @@ static void check_fault(int line, uint32_t number)
 
 #define FAULTS(number) check_fault(__LINE__, (number))
 
-/* A store, and a load, with what each says in an mb_refused; the same without one. */
-static void check_store(int line, uint32_t code)
+/* The proved store and load on bytes: the answer, and the position, which they write whatever they answer. */
+static void check_raw_store(int line, const uint8_t *bytes, size_t length, uint32_t code, uint32_t position)
 {
-    mb_refused refused = {STALE};
-    check(line, "store", mb_store(&record, lent.room, room_length, &refused), code);
-    check(line, "what the store says", refused.number, code);
-    check(line, "store, saying nothing", mb_store(&record, lent.room, room_length, NULL), code);
+    uint32_t told = STALE;
+    check(line, "proved store", mb_raw_store(bytes, length, lent.room, room_length, &told), code);
+    check(line, "position of the proved store", told, position);
 }
 
-static void check_load(int line, uint32_t code)
+static void check_raw_load(int line, uint8_t *bytes, size_t length, uint32_t code, uint32_t position)
 {
-    mb_refused refused = {STALE};
+    uint32_t told = STALE;
+    check(line, "proved load", mb_raw_load(lent.room, room_length, bytes, length, &told), code);
+    check(line, "position of the proved load", told, position);
+}
+
+/* The header's store into the room as it was given, and whether it leaves what the proved one does. */
+static void check_room(int line, const uint8_t *given, const uint8_t *stored, uint32_t code, mb_refused *refused)
+{
+    memcpy(lent.room, given, sizeof lent.room);
+    check(line, "store", mb_store(&record, lent.room, room_length, refused), code);
+    check(line, "room as the proved store leaves it", memcmp(lent.room, stored, sizeof lent.room) == 0, true);
+}
+
+/* A store, and a load, with what each says in an mb_refused; the same without one, and the proved ones. */
+static void check_store(int line, uint32_t code, uint32_t position)
+{
+    uint8_t bytes[MB_RECORD_BYTES], given[sizeof lent.room], stored[sizeof lent.room];
+    mb_refused refused = {STALE, STALE};
+    memcpy(given, lent.room, sizeof given);
+    mb_internal_pack(&record, bytes);
+    check_raw_store(line, bytes, sizeof bytes, code, position);
+    memcpy(stored, lent.room, sizeof stored);
+    check_room(line, given, stored, code, NULL);
+    check_room(line, given, stored, code, &refused);
+    check(line, "what the store says", refused.number, code);
+    check(line, "where, by the store", refused.position, position);
+}
+
+static void check_load(int line, uint32_t code, uint32_t position)
+{
+    uint8_t bytes[MB_RECORD_BYTES];
+    mb_refused refused = {STALE, STALE};
     check(line, "load", mb_load(lent.room, room_length, &record, &refused), code);
     check(line, "what the load says", refused.number, code);
+    check(line, "where, by the load", refused.position, position);
     check(line, "load, saying nothing", mb_load(lent.room, room_length, &record, NULL), code);
+    check_raw_load(line, bytes, sizeof bytes, code, position);
 }
 
-#define STORES(code) check_store(__LINE__, (code))
-#define LOADS(code) check_load(__LINE__, (code))
+#define STORES(code) check_store(__LINE__, (code), 0)
+#define LOADS(code) check_load(__LINE__, (code), 0)
 
 /* ---- initialisers and version */
 
@@ -235,6 +269,7 @@ static void initialisers(void)
     CHECK(nothing.kind, MB_STOP_BUDGET);
     CHECK(nothing.value, 0);
     CHECK(nothing.literal, 0);
+    CHECK(nothing.position, 0);
     CHECK(nothing.steps, 0);
     CHECK(on.program.page == lent.page, true);
     CHECK(on.program.page_length == page_length, true);
@@ -429,60 +464,100 @@ static void stored_and_read_back(void)
     CHECK(same_record(&record, &record_before), true);
 }
 
-/* One change each that takes a record out of range; it is a record still. */
-static void out_of_range(int which)
+/* One field each with a value out of range: where it stands, the kind that the base then has, the value, and what a step and a
+ * run without external data refuse it by. */
+typedef struct { uint32_t position; uint8_t kind; uint32_t value, refusal; } damage;
+
+static const damage damages[] = {
+    {MB_AT_SP, 0, 0xFFFC, MB_REFUSED_SP_BOUNDS}, {MB_AT_SP, 0, 0x18004, MB_REFUSED_SP_BOUNDS},
+    {MB_AT_SP, 0, 0, MB_REFUSED_SP_BOUNDS}, {MB_AT_SP, 0, UINT32_MAX, MB_REFUSED_SP_BOUNDS},
+    {MB_AT_SP, 0, 0x18001, MB_REFUSED_SP_BOUNDS}, {MB_AT_SP, 0, 0x10001, MB_REFUSED_SP_ALIGNMENT},
+    {MB_AT_SP, 0, 0x17FFE, MB_REFUSED_SP_ALIGNMENT}, {MB_AT_SP, 0, 0x17FFF, MB_REFUSED_SP_ALIGNMENT},
+    {MB_AT_BASE_KIND, 3, 0, MB_REFUSED_NO_RECORD}, {MB_AT_BASE_KIND, 3, 1, MB_REFUSED_NO_RECORD},
+    {MB_AT_BASE_KIND, 255, 0, MB_REFUSED_NO_RECORD}, {MB_AT_BASE_KIND, 255, UINT32_MAX, MB_REFUSED_NO_RECORD},
+    {MB_AT_BASE_OFFSET, MB_BASE_NONE, 1, MB_REFUSED_NO_RECORD},
+    {MB_AT_BASE_OFFSET, MB_BASE_NONE, 0x80000000, MB_REFUSED_NO_RECORD},
+    {MB_AT_BASE_OFFSET, MB_BASE_RAM, 0x100000, MB_REFUSED_RAM_OFFSET},
+    {MB_AT_BASE_OFFSET, MB_BASE_RAM, UINT32_MAX, MB_REFUSED_RAM_OFFSET},
+    {MB_AT_BASE_OFFSET, MB_BASE_EXTERNAL, 0x1000000, MB_REFUSED_EXTERNAL_OFFSET},
+    {MB_AT_BASE_OFFSET, MB_BASE_EXTERNAL, UINT32_MAX, MB_REFUSED_EXTERNAL_OFFSET},
+    {MB_AT_PLACE, 0, 128, MB_REFUSED_UNFIT_PLACE}, {MB_AT_PLACE, 0, 256, MB_REFUSED_UNFIT_PLACE},
+    {MB_AT_PLACE, 0, 65535, MB_REFUSED_UNFIT_PLACE},
+};
+
+enum { DAMAGES = sizeof damages / sizeof damages[0] };
+
+static void put_damage(damage d)
 {
-    switch (which) {
-    case 0: record.sp = 0x18004; break;
-    case 1: record.sp = 0xFFFC; break;
-    case 2: record.sp = 0x17FFE; break;
-    case 3: set_base(MB_BASE_RAM, 0x100000); break;
-    case 4: set_base(MB_BASE_EXTERNAL, 0x1000000); break;
-    default: record.place = 128;
+    switch (d.position) {
+    case MB_AT_SP: record.sp = d.value; break;
+    case MB_AT_PLACE: record.place = (uint16_t)d.value; break;
+    default: set_base(d.kind, d.value);
     }
 }
 
-/* One change each after which it is no record. */
-static void no_record(int which)
+static uint32_t refused_at(damage d) { return d.refusal == MB_REFUSED_NO_RECORD ? d.position : 0; }
+
+static bool of_the_base(damage d) { return d.position == MB_AT_BASE_KIND || d.position == MB_AT_BASE_OFFSET; }
+
+/* Whether a record can have both: they are of two fields, and not both of the base, which is put whole. */
+static bool together(damage one, damage other)
 {
-    switch (which) {
-    case 0: set_base(3, 0); break;
-    case 1: set_base(255, 0); break;
-    default: set_base(MB_BASE_NONE, 1);
-    }
+    return one.position != other.position && !(of_the_base(one) && of_the_base(other));
 }
 
-static void check_not_stored(int line)
+static uint32_t lower(uint32_t one, uint32_t other) { return one < other ? one : other; }
+
+/* The record isn't stored, and its bytes are not read back, with flags above 15 neither. */
+static void check_out_of_range(int line, uint32_t position)
 {
     keep();
-    check_store(line, MB_REFUSED_FORM_RANGE);
+    check_store(line, MB_REFUSED_FORM_RANGE, position);
     check(line, "changed by the store", changed(), 0);
+    mb_internal_pack(&record, lent.room);
+    keep();
+    check_load(line, MB_REFUSED_FORM_RANGE, position);
+    lent.room[MB_AT_FLAGS] = before.room[MB_AT_FLAGS] = 16;
+    check_load(line, MB_REFUSED_FORM_RANGE, position);
+    check(line, "changed by the load", changed(), 0);
 }
 
-static void not_stored(void)
+static void out_of_range(void)
 {
-    for (int which = 0; which <= 5; which++) {
+    for (size_t i = 0; i < DAMAGES; i++) {
         begin();
-        out_of_range(which);
-        check_not_stored(__LINE__);
-    }
-    for (int which = 0; which <= 2; which++) {
-        begin();
-        no_record(which);
-        check_not_stored(__LINE__);
+        put_damage(damages[i]);
+        check_out_of_range(__LINE__, damages[i].position);
     }
 }
 
-/* The full record's bytes with one byte changed, which then isn't in range. */
+/* The first field decides. */
+static void out_of_range_twice(void)
+{
+    for (size_t i = 0; i < DAMAGES * DAMAGES; i++) {
+        damage one = damages[i / DAMAGES], other = damages[i % DAMAGES];
+        if (!together(one, other))
+            continue;
+        begin();
+        put_damage(one);
+        put_damage(other);
+        check_out_of_range(__LINE__, lower(one.position, other.position));
+    }
+}
+
+/* The full record's bytes with one byte changed, which then isn't in range: by any byte of a field, at its first. */
 static void not_read_back(void)
 {
-    const uint8_t changes[][2] = {{32, 1}, {34, 2}, {34, 0}, {36, 3}, {36, 255}, {36, 0}, {39, 0x10}, {41, 128}, {42, 1}, {43, 16}};
+    const uint8_t changes[][3] = {
+        {32, 1, 32}, {33, 0x81, 32}, {34, 2, 32}, {34, 0, 32}, {35, 1, 32}, {36, 3, 36}, {36, 255, 36}, {36, 0, 37},
+        {39, 0x10, 37}, {40, 1, 37}, {41, 128, 41}, {42, 1, 41}, {43, 16, 43}, {43, 255, 43},
+    };
     for (size_t i = 0; i < sizeof changes / sizeof changes[0]; i++) {
         begin();
         memcpy(lent.room, full_bytes, sizeof full_bytes);
         lent.room[changes[i][0]] = changes[i][1];
         keep();
-        LOADS(MB_REFUSED_FORM_RANGE);
+        check_load(__LINE__, MB_REFUSED_FORM_RANGE, changes[i][2]);
         CHECK(changed(), 0);
     }
 }
@@ -498,7 +573,7 @@ static void form_length(void)
         LOADS(MB_REFUSED_FORM_LENGTH);
         CHECK(changed(), 0);
         record.sp = 0x18004; /* 6 before 7 */
-        no_record(0);
+        set_base(3, 0);
         keep();
         STORES(MB_REFUSED_FORM_LENGTH);
         CHECK(changed(), 0);
@@ -515,14 +590,15 @@ static void raw_lengths(void)
     memset(bytes, 0x5A, sizeof bytes);
     memcpy(bytes, full_bytes, sizeof full_bytes);
     memcpy(kept, bytes, sizeof bytes);
+    memcpy(lent.room, full_bytes, sizeof full_bytes); /* so that the lengths alone are wrong */
     keep();
     for (size_t i = 0; i < sizeof lengths / sizeof lengths[0]; i++) {
         CHECK(mb_raw_fresh(bytes, lengths[i]), MB_REFUSED_FORM_LENGTH);
-        CHECK(mb_raw_store(bytes, lengths[i], lent.room, MB_RECORD_BYTES), MB_REFUSED_FORM_LENGTH);
-        CHECK(mb_raw_store(bytes, lengths[i], lent.room, 43), MB_REFUSED_FORM_LENGTH);
-        CHECK(mb_raw_load(full_bytes, MB_RECORD_BYTES, bytes, lengths[i]), MB_REFUSED_FORM_LENGTH);
-        CHECK(mb_raw_load(full_bytes, 43, bytes, lengths[i]), MB_REFUSED_FORM_LENGTH);
-        BYTES_REFUSED(bytes, lengths[i], MB_REFUSED_NO_RECORD);
+        for (room_length = 43; room_length <= 44; room_length++) {
+            check_raw_store(__LINE__, bytes, lengths[i], MB_REFUSED_FORM_LENGTH, 0);
+            check_raw_load(__LINE__, bytes, lengths[i], MB_REFUSED_FORM_LENGTH, 0);
+        }
+        BYTES_REFUSED(bytes, lengths[i], MB_REFUSED_NO_RECORD, 0);
     }
     CHECK(changed(), 0);
     CHECK(memcmp(bytes, kept, sizeof bytes) == 0, true);
@@ -535,10 +611,26 @@ static void raw_flags(void)
     CHECK(mb_raw_fresh(bytes, sizeof bytes), MB_ACCEPTED);
     bytes[43] = 16;
     keep();
-    CHECK(mb_raw_store(bytes, sizeof bytes, lent.room, MB_RECORD_BYTES), MB_REFUSED_FORM_RANGE);
-    BYTES_REFUSED(bytes, sizeof bytes, MB_REFUSED_NO_RECORD);
+    check_raw_store(__LINE__, bytes, sizeof bytes, MB_REFUSED_FORM_RANGE, MB_AT_FLAGS);
+    BYTES_REFUSED(bytes, sizeof bytes, MB_REFUSED_NO_RECORD, MB_AT_FLAGS);
     external_length = 1; /* 3 before 255 */
-    BYTES_REFUSED(bytes, sizeof bytes, MB_REFUSED_EXTERNAL_LENGTH);
+    BYTES_REFUSED(bytes, sizeof bytes, MB_REFUSED_EXTERNAL_LENGTH, 0);
+}
+
+/* Flags above 15 with each damage: a base that is no record's decides before them, SP, offset and place have no part in it. */
+static void raw_flags_and_fields(void)
+{
+    uint8_t bytes[MB_RECORD_BYTES];
+    for (size_t i = 0; i < DAMAGES; i++) {
+        bool no_record = damages[i].refusal == MB_REFUSED_NO_RECORD;
+        begin();
+        put_damage(damages[i]);
+        mb_internal_pack(&record, bytes);
+        bytes[43] = 255;
+        keep();
+        check_raw_store(__LINE__, bytes, sizeof bytes, MB_REFUSED_FORM_RANGE, damages[i].position);
+        BYTES_REFUSED(bytes, sizeof bytes, MB_REFUSED_NO_RECORD, no_record ? damages[i].position : MB_AT_FLAGS);
+    }
 }
 
 /* ---- steps and runs */
@@ -718,19 +810,54 @@ static void refused_lengths(void)
 
 static void refused_records(void)
 {
-    for (int which = 0; which <= 4; which++) {
+    for (size_t i = 0; i < DAMAGES; i++) {
         begin();
-        out_of_range(which);
-        REFUSED(MB_REFUSED_UNFIT_RECORD);
+        put_damage(damages[i]);
+        REFUSED_AT(damages[i].refusal, refused_at(damages[i]));
     }
-    begin();
-    external_length = 256;
-    set_base(MB_BASE_EXTERNAL, 256); /* in range, but past this data */
-    REFUSED(MB_REFUSED_UNFIT_RECORD);
-    for (int which = 0; which <= 2; which++) {
+}
+
+/* Which of the refusals of a record a step and a run test first. */
+static uint32_t rank(uint32_t refusal)
+{
+    switch (refusal) {
+    case MB_REFUSED_NO_RECORD: return 0;
+    case MB_REFUSED_UNFIT_PLACE: return UINT32_MAX;
+    default: return refusal; /* 41 to 44 */
+    }
+}
+
+static void records_refused_twice(void)
+{
+    for (size_t i = 0; i < DAMAGES * DAMAGES; i++) {
+        damage one = damages[i / DAMAGES], other = damages[i % DAMAGES];
+        damage first = rank(one.refusal) < rank(other.refusal) ? one : other;
+        if (!together(one, other))
+            continue;
         begin();
-        no_record(which);
-        REFUSED(MB_REFUSED_NO_RECORD);
+        put_damage(one);
+        put_damage(other);
+        REFUSED_AT(first.refusal, refused_at(first));
+    }
+}
+
+/* The ends of what is fit; of external offsets, by the data's length, though all of these are stored. */
+static void fit_records(void)
+{
+    const mb_base bases[] = {{MB_BASE_NONE, 0}, {MB_BASE_RAM, 0}, {MB_BASE_RAM, 0xFFFFF}, {MB_BASE_EXTERNAL, 511}};
+    const uint32_t sps[] = {0x10000, 0x10004, 0x17FFC, 0x18000};
+    for (size_t i = 0; i < 16; i++) {
+        begin();
+        external_length = 512;
+        record.sp = sps[i / 4];
+        record.base = bases[i % 4];
+        STOPS(run(100000), MB_STOP_SERVICE, 0, 0, 4);
+    }
+    for (external_length = 0; external_length <= 512; external_length += 256) {
+        record = fresh_by_hand();
+        set_base(MB_BASE_EXTERNAL, (uint32_t)external_length);
+        REFUSED(MB_REFUSED_EXTERNAL_OFFSET);
+        STORES(MB_ACCEPTED);
     }
 }
 
@@ -753,7 +880,7 @@ static void refused_places(void)
     REFUSED(MB_REFUSED_UNFIT_PLACE);
 }
 
-/* Everything wrong at first, and then mended part by part: 18, 1 to 3, 255, 4, 5. */
+/* Everything wrong at first, and then mended part by part: 18, 1 to 3, 255, 41 to 44, 5. */
 static void order(void)
 {
     begin();
@@ -761,9 +888,9 @@ static void order(void)
     page_length = 3;
     ram_length = 1;
     external_length = 1;
-    record.sp = 0;
+    record.sp = 0xFFFE;
     record.place = 128;
-    no_record(0);
+    set_base(3, 1);
     REFUSED(MB_REFUSED_UNKNOWN_PROFILE);
     profile = profile_at_first;
     REFUSED(MB_REFUSED_PAGE_LENGTH);
@@ -772,10 +899,18 @@ static void order(void)
     ram_length = MB_RAM_BYTES;
     REFUSED(MB_REFUSED_EXTERNAL_LENGTH);
     external_length = 0;
-    REFUSED(MB_REFUSED_NO_RECORD);
-    set_base(MB_BASE_NONE, 0);
-    REFUSED(MB_REFUSED_UNFIT_RECORD);
+    REFUSED_AT(MB_REFUSED_NO_RECORD, MB_AT_BASE_KIND);
+    record.base.kind = MB_BASE_NONE;
+    REFUSED_AT(MB_REFUSED_NO_RECORD, MB_AT_BASE_OFFSET);
+    set_base(MB_BASE_RAM, 0x100000);
+    REFUSED(MB_REFUSED_SP_BOUNDS);
+    record.sp = 0x10002;
+    REFUSED(MB_REFUSED_SP_ALIGNMENT);
     record.sp = 0x18000;
+    REFUSED(MB_REFUSED_RAM_OFFSET);
+    set_base(MB_BASE_EXTERNAL, 0);
+    REFUSED(MB_REFUSED_EXTERNAL_OFFSET);
+    set_base(MB_BASE_NONE, 0);
     REFUSED(MB_REFUSED_UNFIT_PLACE);
     record.place = 0;
     STOPS(run(100000), MB_STOP_SERVICE, 0, 0, 4);
@@ -933,12 +1068,12 @@ static void check_places(int line, uint32_t steps)
 {
     profile = MB_PROFILE_SMALL;
     record.place = 0;
-    check_answer(line, run(100000), MB_ACCEPTED, (mb_stopped){MB_STOP_SERVICE, 0, 0, 2});
+    check_answer(line, run(100000), MB_ACCEPTED, (mb_stopped){MB_STOP_SERVICE, 0, 0, 0, 2});
     for (record.place = 2; record.place < page_length / 2; record.place++)
-        check_refused(line, MB_REFUSED_UNFIT_PLACE);
+        check_refused(line, MB_REFUSED_UNFIT_PLACE, 0);
     profile = MB_PROFILE_FULL;
     record.place = 2;
-    check_answer(line, run(100000), MB_ACCEPTED, (mb_stopped){MB_STOP_SERVICE, 0, 0, steps});
+    check_answer(line, run(100000), MB_ACCEPTED, (mb_stopped){MB_STOP_SERVICE, 0, 0, 0, steps});
 }
 
 static void places_of_profiles(void)
@@ -972,16 +1107,24 @@ static void unknown_profiles_of_pages(void)
     CHECK(changed(), 0);
 }
 
-/* One thing each that a step and a run refuse in a known profile; by which number. */
-static uint32_t spoil(int which)
+/* One thing each that a step and a run refuse in a known profile, other than a damage; by which number. */
+enum { SPOILS = 4 };
+
+static uint32_t spoil(size_t which)
 {
     switch (which) {
     case 0: page_length = 3; return MB_REFUSED_PAGE_LENGTH;
     case 1: ram_length = 1; return MB_REFUSED_RAM_LENGTH;
     case 2: external_length = 1; return MB_REFUSED_EXTERNAL_LENGTH;
-    case 3: no_record(0); return MB_REFUSED_NO_RECORD;
-    case 4: out_of_range(0); return MB_REFUSED_UNFIT_RECORD;
-    default: record.place = 6; return MB_REFUSED_UNFIT_PLACE;
+    default: record.place = 6; return MB_REFUSED_UNFIT_PLACE; /* in the page, and not below the count */
+    }
+}
+
+static void check_unknown_profiles(int line)
+{
+    for (size_t i = 0; i < UNKNOWN_PROFILES; i++) {
+        profile = unknown_profiles[i];
+        check_refused(line, MB_REFUSED_UNKNOWN_PROFILE, 0);
     }
 }
 
@@ -989,19 +1132,17 @@ static uint32_t spoil(int which)
 static void unknown_profiles_of_runs(void)
 {
     begin();
-    for (size_t i = 0; i < UNKNOWN_PROFILES; i++) {
-        profile = unknown_profiles[i];
-        REFUSED(MB_REFUSED_UNKNOWN_PROFILE);
-    }
-    for (int which = 0; which <= 5; which++) {
-        uint32_t other;
+    check_unknown_profiles(__LINE__);
+    for (size_t which = 0; which < SPOILS; which++) {
         begin();
-        other = spoil(which);
-        REFUSED(other);
-        for (size_t i = 0; i < UNKNOWN_PROFILES; i++) {
-            profile = unknown_profiles[i];
-            REFUSED(MB_REFUSED_UNKNOWN_PROFILE);
-        }
+        REFUSED(spoil(which));
+        check_unknown_profiles(__LINE__);
+    }
+    for (size_t which = 0; which < DAMAGES; which++) {
+        begin();
+        put_damage(damages[which]);
+        REFUSED_AT(damages[which].refusal, refused_at(damages[which]));
+        check_unknown_profiles(__LINE__);
     }
 }
 
@@ -1014,10 +1155,10 @@ static void unknown_profiles_of_bytes(void)
     memset(bytes, 0xFF, sizeof bytes);
     for (size_t length = 43; length <= 44; length++) {
         profile = profile_at_first;
-        BYTES_REFUSED(bytes, length, MB_REFUSED_NO_RECORD);
+        BYTES_REFUSED(bytes, length, MB_REFUSED_NO_RECORD, length == 44 ? MB_AT_BASE_KIND : 0);
         for (size_t i = 0; i < UNKNOWN_PROFILES; i++) {
             profile = unknown_profiles[i];
-            BYTES_REFUSED(bytes, length, MB_REFUSED_UNKNOWN_PROFILE);
+            BYTES_REFUSED(bytes, length, MB_REFUSED_UNKNOWN_PROFILE, 0);
         }
     }
 }
@@ -1130,8 +1271,9 @@ static const test of_the_full_profile[] = {
 
 static const test of_both_profiles[] = {
     initialisers, count_of_a_full_page, count_refused, bundles, bases, base_at_the_end,
-    stored_and_read_back, not_stored, not_read_back, form_length, raw_lengths, raw_flags,
-    printed_run, budget_zero, slices, other_stops, blt, refused_lengths, refused_records, order,
+    stored_and_read_back, out_of_range, out_of_range_twice, not_read_back, form_length, raw_lengths, raw_flags,
+    raw_flags_and_fields, printed_run, budget_zero, slices, other_stops, blt, refused_lengths, refused_records,
+    records_refused_twice, fit_records, order,
     counts_of_syscalls, places_of_syscalls, places_behind_syscalls, other_services,
     counts_of_profiles, bundles_of_profiles, places_of_profiles,
     unknown_profiles_of_pages, unknown_profiles_of_runs, unknown_profiles_of_bytes,

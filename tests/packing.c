@@ -1,5 +1,6 @@
 /* The packing of a record, for records made from a seed: held to docs/MACHINE.md's table "The stored form" by a writer of
- * this file's own, and to what the proved library reads from the packed bytes and writes to them. */
+ * this file's own, and to what the proved library reads from the packed bytes and writes to them. So is the position of the
+ * first field out of range. */
 #include "check.h"
 #include "marshbodkin.h"
 #include "records.h"
@@ -105,6 +106,67 @@ static void stored_by_the_table(void)
     CHECK(memcmp(room, expected, sizeof room) == 0, true);
     CHECK(mb_load(expected, sizeof expected, &loaded, NULL), MB_ACCEPTED);
     CHECK(same_record(&loaded, &record), true);
+}
+
+/* ---- where the table says that a record is out of range */
+
+/* Below RAM, above it, or in it and no multiple of 4. */
+static uint32_t wrong_sp(void)
+{
+    switch (random_below(3)) {
+    case 0: return random_below(0x10000);
+    case 1: return 0x18001 + (random_word() >> (1 + random_below(31)));
+    default: return 0x10000 + 4 * random_below(0x2000) + 1 + random_below(3);
+    }
+}
+
+/* Each field out of range or left as it is, by chance. */
+static mb_record spoilt_record(void)
+{
+    mb_record record = fit_record();
+    if (random_bit())
+        record.sp = wrong_sp();
+    if (random_bit())
+        record.base.kind = (uint8_t)random_below(5);
+    if (random_bit())
+        record.base.offset = random_word() >> random_below(32);
+    if (random_bit())
+        record.place = (uint16_t)random_below(256);
+    return record;
+}
+
+static bool offset_in_range(mb_base base)
+{
+    switch (base.kind) {
+    case MB_BASE_NONE: return base.offset == 0;
+    case MB_BASE_RAM: return base.offset <= 0xFFFFF;
+    default: return base.offset <= 0xFFFFFF;
+    }
+}
+
+/* By the table, from its last row up; 0 if all is in range. */
+static uint32_t first_failing(const mb_record *record, uint8_t flags)
+{
+    uint32_t position = flags > 15 ? 43 : 0;
+    position = record->place > 127 ? 41 : position;
+    position = offset_in_range(record->base) ? position : 37;
+    position = record->base.kind > 2 ? 36 : position;
+    return record->sp < 0x10000 || record->sp > 0x18000 || record->sp % 4 != 0 ? 32 : position;
+}
+
+static void told_by_the_table(void)
+{
+    uint8_t bytes[MB_RECORD_BYTES], room[MB_RECORD_BYTES];
+    mb_record record = spoilt_record(), loaded;
+    mb_refused refused = {99, 99};
+    uint32_t position = first_failing(&record, 0);
+    CHECK(mb_store(&record, room, sizeof room, &refused), position == 0 ? MB_ACCEPTED : MB_REFUSED_FORM_RANGE);
+    CHECK(refused.position, position);
+    write_by_table(&record, bytes);
+    bytes[43] = (uint8_t)random_below(32);
+    position = first_failing(&record, bytes[43]);
+    CHECK(mb_load(bytes, sizeof bytes, &loaded, &refused), position == 0 ? MB_ACCEPTED : MB_REFUSED_FORM_RANGE);
+    CHECK(refused.position, position);
 }
 
 /* ---- one step of the proved machine, by docs/MACHINE.md's rules: every part of a record is read by some step and written by some */
@@ -266,7 +328,7 @@ static void base_by_load(void)
 int main(void)
 {
     void (*const tests[])(void) = {
-        packed_by_the_table, stored_by_the_table, registers_by_mov, sp_by_add, sp_by_service,
+        packed_by_the_table, stored_by_the_table, told_by_the_table, registers_by_mov, sp_by_add, sp_by_service,
         flags_by_branch, flags_by_cmp, base_by_validate, base_by_load,
     };
     fill_areas();

@@ -17,20 +17,31 @@ static void (*measured)(void);
 
 /* What is lent to the calls. */
 static uint8_t page[MB_PAGE_MOST], ram[MB_RAM_BYTES], external[256], record[MB_RECORD_BYTES], room[MB_RECORD_BYTES];
+static uint8_t no_record[MB_RECORD_BYTES] = {[MB_AT_BASE_KIND] = 3};
 static size_t page_length;
 static const uint64_t never_return = 1; /* syscall 0, and not 1, which the page has */
 static uint32_t profile;
-static uint32_t code, numbers[5];
+static uint32_t code, refused, position, numbers[5];
 static mb_stopped stopped;
 
-/* ---- the calls, each of which leaves 0 in code */
+/* ---- the calls, each of which leaves 0 in code; those that take a record are handed none first, which goes other ways */
 
 static void version(void) { code = mb_raw_version() - MB_VERSION; }
 static void count(void) { code = mb_raw_count(page, page_length, never_return, profile, &numbers[0]); }
 static void validate(void) { code = mb_raw_validate(0x80000001, external, sizeof external, &numbers[0], &numbers[1]); }
 static void fresh(void) { code = mb_raw_fresh(record, sizeof record); }
-static void store(void) { code = mb_raw_store(record, sizeof record, room, sizeof room); }
-static void load(void) { code = mb_raw_load(room, sizeof room, record, sizeof record); }
+
+static void store(void)
+{
+    refused = mb_raw_store(no_record, sizeof no_record, room, sizeof room, &position);
+    code = mb_raw_store(record, sizeof record, room, sizeof room, &position);
+}
+
+static void load(void)
+{
+    refused = mb_raw_load(no_record, sizeof no_record, record, sizeof record, &position);
+    code = mb_raw_load(room, sizeof room, record, sizeof record, &position);
+}
 
 static void read_bundle(void)
 {
@@ -44,22 +55,36 @@ static void decode_exit(void)
         mb_raw_exit(low, 0x80070001, &numbers[0], &numbers[1], &numbers[2], &numbers[3], &numbers[4]);
 }
 
+static uint32_t run_from(uint8_t *bytes)
+{
+    return mb_raw_run(page, page_length, never_return, profile, ram, sizeof ram, external, sizeof external,
+                      bytes, MB_RECORD_BYTES, 1000, &stopped.kind, &stopped.value, &stopped.literal, &stopped.position,
+                      &stopped.steps);
+}
+
+static uint32_t step_from(uint8_t *bytes)
+{
+    return mb_raw_step(page, page_length, never_return, profile, ram, sizeof ram, external, sizeof external,
+                       bytes, MB_RECORD_BYTES, &stopped.kind, &stopped.value, &stopped.literal, &stopped.position,
+                       &stopped.steps);
+}
+
 /* The page goes on behind a direct syscall, up to its exit by a literal. */
 static void run(void)
 {
+    refused = run_from(no_record);
     fresh();
     do {
-        code = mb_raw_run(page, page_length, never_return, profile, ram, sizeof ram, external, sizeof external,
-                          record, sizeof record, 1000, &stopped.kind, &stopped.value, &stopped.literal, &stopped.steps);
+        code = run_from(record);
     } while (stopped.kind == MB_STOP_SERVICE);
 }
 
 static void steps(void)
 {
+    refused = step_from(no_record);
     fresh();
     do {
-        code = mb_raw_step(page, page_length, never_return, profile, ram, sizeof ram, external, sizeof external,
-                           record, sizeof record, &stopped.kind, &stopped.value, &stopped.literal, &stopped.steps);
+        code = step_from(record);
     } while (stopped.kind == MB_STOP_BUDGET || stopped.kind == MB_STOP_SERVICE);
 }
 
@@ -99,7 +124,7 @@ static size_t taken_by(void (*call)(void))
     return (size_t)(top - (stack + untouched));
 }
 
-/* ---- a page that reaches every function of the archive */
+/* ---- a page that reaches every function that a run comes to */
 
 static void put_page(void)
 {
@@ -134,13 +159,14 @@ static void lend(uint32_t in_profile)
     if (profile == MB_PROFILE_SMALL)
         leave_out_32_bits();
     stopped = mb_nothing_run();
+    refused = MB_ACCEPTED;
 }
 
 /* ---- all calls */
 
-typedef struct { const char *name; void (*call)(void); bool runs; } named_call;
+typedef struct { const char *name; void (*call)(void); uint32_t value, refused; } named_call;
 
-/* The most stack that a call takes in a profile; it must be accepted, and run to the page's end. */
+/* The most stack that a call takes in a profile; it must be accepted, and run to the page's end, but for what it is to refuse. */
 static size_t most_taken(named_call named)
 {
     size_t most = 0;
@@ -150,7 +176,8 @@ static size_t most_taken(named_call named)
         taken = taken_by(named.call);
         most = taken > most ? taken : most;
         CHECK(code, MB_ACCEPTED);
-        CHECK(stopped.value, named.runs ? 0x16 : 0);
+        CHECK(stopped.value, named.value);
+        CHECK(refused, named.refused);
     }
     return most;
 }
@@ -158,9 +185,10 @@ static size_t most_taken(named_call named)
 int main(void)
 {
     static const named_call calls[] = {
-        {"version", version, false}, {"count", count, false}, {"read_bundle", read_bundle, false},
-        {"validate", validate, false}, {"fresh", fresh, false}, {"step", steps, true}, {"run", run, true},
-        {"store", store, false}, {"load", load, false}, {"exit", decode_exit, false},
+        {"version", version, 0, 0}, {"count", count, 0, 0}, {"read_bundle", read_bundle, 0, 0},
+        {"validate", validate, 0, 0}, {"fresh", fresh, 0, 0}, {"step", steps, 0x16, MB_REFUSED_NO_RECORD},
+        {"run", run, 0x16, MB_REFUSED_NO_RECORD}, {"store", store, 0, MB_REFUSED_FORM_RANGE},
+        {"load", load, 0, MB_REFUSED_FORM_RANGE}, {"exit", decode_exit, 0, 0},
     };
     for (size_t i = 0; i < sizeof calls / sizeof calls[0]; i++) {
         size_t most = most_taken(calls[i]);

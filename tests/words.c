@@ -14,6 +14,7 @@ static void print_words(const char *of, const char *(*words)(uint32_t))
 int main(void)
 {
     print_words("refusal", mb_refusal_words);
+    print_words("field", mb_field_words);
     print_words("fault", mb_fault_words);
     print_words("stop", mb_stop_words);
     print_words("exit", mb_exit_words);

@@ -7,8 +7,8 @@
 use std::error::Error;
 use std::process::ExitCode;
 
-use marshbodkin::{syscall_bit, version, Exit, Program, Record, Setting, Stop, VERSION};
-use marshbodkin::{BUNDLE_LENGTH, EXTERNAL_PAGE_LENGTH, EXTERNAL_START, RAM_LENGTH};
+use marshbodkin::{syscall_bit, version, Exit, Program, Record, Refusal, Setting, Stop, AT_SP};
+use marshbodkin::{BUNDLE_LENGTH, EXTERNAL_PAGE_LENGTH, EXTERNAL_START, RAM_LENGTH, VERSION};
 
 type Outcome = Result<(), Box<dyn Error>>;
 
@@ -144,6 +144,18 @@ fn begin(record: &mut Record, first: usize, pairs: u32) {
     record.registers[PAIRS_LEFT] = pairs;
 }
 
+/// The record as a file or a link would take it, and give it back. What is damaged
+/// on the way and out of range then is told by its field, here SP.
+fn over_a_link(record: &Record) -> Result<Record, Refusal> {
+    let sent = record.store()?;
+    let mut damaged = sent;
+    damaged[AT_SP as usize] ^= 1;
+    if let Err(refusal) = Record::load(&damaged) {
+        println!("damaged: {refusal}");
+    }
+    Record::load(&sent)
+}
+
 /// Three cycles of the filter, with the record saved after the first.
 fn cycles(host: &mut Host) -> Outcome {
     let mut record = Record::default();
@@ -152,9 +164,7 @@ fn cycles(host: &mut Host) -> Outcome {
     println!("cycle 1");
     begin(&mut record, 0, 5);
     host.cycle(&mut record)?;
-    // Here a file or a link would take the bytes, and give them back.
-    let saved = record.store()?;
-    let mut record = Record::load(&saved)?;
+    let mut record = over_a_link(&record)?;
     println!("cycle 2");
     // The host's mistake: two pairs are left, not three.
     begin(&mut record, 30, 3);

@@ -42,6 +42,10 @@
 //! assert_eq!(record, given);
 //! ```
 //!
+//! Where a record can't be stored or read back (7), and where a step or a run is
+//! handed none (255), the refusal says which field is wrong, by
+//! [`Refusal::position`]: [`AT_SP`] and its like name the positions.
+//!
 //! A host that changes the record between calls, say to hand in the results of a
 //! syscall, or the setting, starts a new series of calls with it: what is proved of a series
 //! holds from any fit record and place. `examples/host.rs` is such a host.
@@ -68,6 +72,7 @@ pub mod words;
 pub use exit::Exit;
 pub use program::{Program, Reading, Setting};
 pub use record::{Base, Flags, Record, RECORD_LENGTH};
+pub use record::{AT_BASE_KIND, AT_BASE_OFFSET, AT_FLAGS, AT_PLACE, AT_R0, AT_SP};
 pub use refusal::Refusal;
 pub use stop::{Fault, Stop, Stopped};
 
@@ -102,7 +107,7 @@ pub const PROFILE_FULL: u32 = 0;
 pub const PROFILE_SMALL: u32 = 1;
 
 /// The version of these calls: 65536 * major + 256 * minor + patch.
-pub const VERSION: u32 = 0x00_04_00;
+pub const VERSION: u32 = 0x00_05_00;
 
 /// The version of the archive that is linked, to be held against [`VERSION`]
 /// before any other call.

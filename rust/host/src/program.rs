@@ -142,8 +142,8 @@ impl<'a> Setting<'a> {
     }
 
     /// Runs from a record until the budget of steps is spent, a service is
-    /// for the host, or a fault. Refusals: 18, 1, 2, 3, 255, 4, 5; RAM and
-    /// record then stay as they were.
+    /// for the host, or a fault. Refusals: 18, 1, 2, 3, 255, 41, 42, 43, 44, 5;
+    /// RAM and record then stay as they were.
     pub fn run(
         &self,
         ram: &mut [u8],

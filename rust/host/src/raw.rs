@@ -2,10 +2,13 @@
 //!
 //! A record crosses as 44 bytes. Each call but [`exit`] and [`version`] answers
 //! 0 (accepted) or the number of a refusal; a step and a run also 255, where bytes
-//! hold no record. Bit n of `never_return` says that direct syscall n never returns;
-//! `profile` is [`PROFILE_FULL`](crate::PROFILE_FULL) or
-//! [`PROFILE_SMALL`](crate::PROFILE_SMALL), and any other number is refused. This is
-//! the one module with `unsafe`.
+//! hold no record. Beside 7 and 255 stands the position, in the 44 bytes, of the
+//! first field that fails; beside any other number it is 0, and beside 255 too where
+//! the bytes aren't 44.
+//!
+//! Bit n of `never_return` says that direct syscall n never returns; `profile` is
+//! [`PROFILE_FULL`](crate::PROFILE_FULL) or [`PROFILE_SMALL`](crate::PROFILE_SMALL),
+//! and any other number is refused. This is the one module with `unsafe`.
 
 use marshbodkin_sys::{
     mb_raw_count, mb_raw_exit, mb_raw_fresh, mb_raw_load, mb_raw_read_bundle, mb_raw_run,
@@ -27,6 +30,9 @@ pub struct Answer {
     pub value: u32,
     /// The literal of kind 2, or 0.
     pub literal: u32,
+    /// With 255 the position of the field that fails, or 0 where the bytes aren't 44;
+    /// else 0.
+    pub position: u32,
     /// The counted steps.
     pub steps: u32,
 }
@@ -97,23 +103,36 @@ pub fn fresh(record: &mut [u8]) -> u32 {
     unsafe { mb_raw_fresh(record.as_mut_ptr(), record.len()) }
 }
 
-/// Stores a record in the room.
-pub fn store(record: &[u8], room: &mut [u8]) -> u32 {
-    // SAFETY: a slice and a `&mut` slice, as above.
-    unsafe { mb_raw_store(record.as_ptr(), record.len(), room.as_mut_ptr(), room.len()) }
+/// Stores a record in the room: the answer and the position.
+pub fn store(record: &[u8], room: &mut [u8]) -> (u32, u32) {
+    let mut position = 0;
+    // SAFETY: a slice, a `&mut` slice and a local, as above.
+    let code = unsafe {
+        mb_raw_store(
+            record.as_ptr(),
+            record.len(),
+            room.as_mut_ptr(),
+            room.len(),
+            &mut position,
+        )
+    };
+    (code, position)
 }
 
-/// Reads a stored form back.
-pub fn load(stored: &[u8], record: &mut [u8]) -> u32 {
-    // SAFETY: a slice and a `&mut` slice, as above.
-    unsafe {
+/// Reads a stored form back: the answer and the position.
+pub fn load(stored: &[u8], record: &mut [u8]) -> (u32, u32) {
+    let mut position = 0;
+    // SAFETY: a slice, a `&mut` slice and a local, as above.
+    let code = unsafe {
         mb_raw_load(
             stored.as_ptr(),
             stored.len(),
             record.as_mut_ptr(),
             record.len(),
+            &mut position,
         )
-    }
+    };
+    (code, position)
 }
 
 /// A run with a budget.
@@ -127,7 +146,7 @@ pub fn run(
     budget: u32,
 ) -> Answer {
     let mut answer = Answer::default();
-    // SAFETY: slices, `&mut` slices and four parts of a local, as above.
+    // SAFETY: slices, `&mut` slices and five parts of a local, as above.
     answer.code = unsafe {
         mb_raw_run(
             page.as_ptr(),
@@ -144,6 +163,7 @@ pub fn run(
             &mut answer.kind,
             &mut answer.value,
             &mut answer.literal,
+            &mut answer.position,
             &mut answer.steps,
         )
     };
@@ -160,7 +180,7 @@ pub fn step(
     record: &mut [u8],
 ) -> Answer {
     let mut answer = Answer::default();
-    // SAFETY: slices, `&mut` slices and four parts of a local, as above.
+    // SAFETY: slices, `&mut` slices and five parts of a local, as above.
     answer.code = unsafe {
         mb_raw_step(
             page.as_ptr(),
@@ -176,6 +196,7 @@ pub fn step(
             &mut answer.kind,
             &mut answer.value,
             &mut answer.literal,
+            &mut answer.position,
             &mut answer.steps,
         )
     };

@@ -1,10 +1,24 @@
 //! The record, and its 44 bytes.
 
 use crate::raw;
-use crate::refusal::{verdict, Refusal};
+use crate::refusal::{verdict, verdict_at, Refusal};
 
 /// Bytes of a record's stored form.
 pub const RECORD_LENGTH: usize = 44;
+
+/// Position of r0 in the stored form, of the type that a [`Refusal`] carries; r1 to
+/// r7 follow every four bytes.
+pub const AT_R0: u32 = 0;
+/// Position of SP in the stored form.
+pub const AT_SP: u32 = 32;
+/// Position of the base's kind in the stored form.
+pub const AT_BASE_KIND: u32 = 36;
+/// Position of the base's offset in the stored form.
+pub const AT_BASE_OFFSET: u32 = 37;
+/// Position of the place in the stored form.
+pub const AT_PLACE: u32 = 41;
+/// Position of the flags in the stored form.
+pub const AT_FLAGS: u32 = 43;
 
 /// The condition flags.
 #[derive(Clone, Copy, Debug, Default, PartialEq, Eq)]
@@ -30,8 +44,8 @@ pub enum Base {
     Ram(u32),
     /// An offset in the external data.
     External(u32),
-    /// Numbers that this version doesn't know. No record has such a base: a
-    /// step and a run refuse it with [`Refusal::NoRecord`].
+    /// Numbers that this version doesn't know, or none with an offset. No record
+    /// has such a base: a step and a run refuse it with [`Refusal::NoRecord`].
     Unknown {
         /// Which base it is.
         kind: u32,
@@ -89,17 +103,32 @@ impl Default for Record {
 }
 
 impl Record {
-    /// The stored form, to be kept or sent. Refusal: 7.
+    /// The stored form, to be kept or sent. Refusal: 7, with the position of the
+    /// first field that is out of range.
     pub fn store(&self) -> Result<[u8; RECORD_LENGTH], Refusal> {
         let mut room = [0; RECORD_LENGTH];
-        verdict(raw::store(&self.to_bytes(), &mut room))?;
+        let (code, position) = raw::store(&self.to_bytes(), &mut room);
+        verdict_at(code, position)?;
         Ok(room)
     }
 
-    /// The record of a stored form. Refusals: 6, 7.
+    /// The record of a stored form. Refusals: 6; 7, with the position of the first
+    /// field that is out of range.
+    ///
+    /// ```
+    /// use marshbodkin::{Record, AT_PLACE};
+    ///
+    /// let mut stored = Record::default().store()?;
+    /// stored[AT_PLACE as usize] = 128;
+    /// let refused = Record::load(&stored).unwrap_err();
+    /// let said = "refused 7 41: stored or given record is out of range at place";
+    /// assert_eq!(refused.to_string(), said);
+    /// # Ok::<(), marshbodkin::Refusal>(())
+    /// ```
     pub fn load(stored: &[u8]) -> Result<Record, Refusal> {
         let mut bytes = [0; RECORD_LENGTH];
-        verdict(raw::load(stored, &mut bytes))?;
+        let (code, position) = raw::load(stored, &mut bytes);
+        verdict_at(code, position)?;
         Record::from_bytes(&bytes)
     }
 
@@ -108,30 +137,34 @@ impl Record {
     pub(crate) fn to_bytes(self) -> [u8; RECORD_LENGTH] {
         let (kind, offset) = self.base.parts();
         let mut bytes = [0; RECORD_LENGTH];
-        for (room, register) in bytes.chunks_exact_mut(4).zip(self.registers) {
-            room.copy_from_slice(&register.to_le_bytes());
+        for (number, register) in (0..).zip(self.registers) {
+            put(&mut bytes, AT_R0 + 4 * number, &register.to_le_bytes());
         }
-        bytes[32..36].copy_from_slice(&self.sp.to_le_bytes());
-        bytes[36] = kind;
-        bytes[37..41].copy_from_slice(&offset.to_le_bytes());
-        bytes[41..43].copy_from_slice(&self.place.to_le_bytes());
-        bytes[43] = self.flags.number();
+        put(&mut bytes, AT_SP, &self.sp.to_le_bytes());
+        put(&mut bytes, AT_BASE_KIND, &[kind]);
+        put(&mut bytes, AT_BASE_OFFSET, &offset.to_le_bytes());
+        put(&mut bytes, AT_PLACE, &self.place.to_le_bytes());
+        put(&mut bytes, AT_FLAGS, &[self.flags.number()]);
         bytes
     }
 
     /// The record that the bytes hold. They hold none if the base kind is
-    /// above 2, an offset stands with none, or the flags are above 15.
+    /// above 2, an offset stands with none, or the flags are above 15; the first
+    /// of these tells the position.
     pub(crate) fn from_bytes(bytes: &[u8; RECORD_LENGTH]) -> Result<Record, Refusal> {
-        let base = Base::of(bytes[36].into(), word(bytes, 37));
-        let flags = Flags::of(bytes[43]).ok_or(Refusal::NoRecord)?;
-        if matches!(base, Base::Unknown { .. }) {
-            return Err(Refusal::NoRecord);
-        }
+        let no_record = |position| Refusal::NoRecord { position };
+        let word = |position| u32::from_le_bytes(part(bytes, position));
+        let ([kind], [flags]) = (part(bytes, AT_BASE_KIND), part(bytes, AT_FLAGS));
+        let base = match Base::of(kind.into(), word(AT_BASE_OFFSET)) {
+            Base::Unknown { kind: 0, .. } => return Err(no_record(AT_BASE_OFFSET)),
+            Base::Unknown { .. } => return Err(no_record(AT_BASE_KIND)),
+            known => known,
+        };
         Ok(Record {
-            registers: std::array::from_fn(|number| word(bytes, 4 * number)),
-            sp: word(bytes, 32),
-            flags,
-            place: u16::from_le_bytes([bytes[41], bytes[42]]),
+            registers: std::array::from_fn(|number| word(AT_R0 + 4 * number as u32)),
+            sp: word(AT_SP),
+            flags: Flags::of(flags).ok_or(no_record(AT_FLAGS))?,
+            place: u16::from_le_bytes(part(bytes, AT_PLACE)),
             base,
         })
     }
@@ -155,9 +188,14 @@ impl TryFrom<&Record> for [u8; RECORD_LENGTH] {
     }
 }
 
-/// The word at a position, lowest byte first.
-fn word(bytes: &[u8; RECORD_LENGTH], at: usize) -> u32 {
-    u32::from_le_bytes([bytes[at], bytes[at + 1], bytes[at + 2], bytes[at + 3]])
+/// Writes the bytes of a field.
+fn put(bytes: &mut [u8; RECORD_LENGTH], position: u32, field: &[u8]) {
+    bytes[position as usize..][..field.len()].copy_from_slice(field);
+}
+
+/// The bytes of a field, as many as are asked for.
+fn part<const WIDTH: usize>(bytes: &[u8; RECORD_LENGTH], position: u32) -> [u8; WIDTH] {
+    std::array::from_fn(|at| bytes[position as usize + at])
 }
 
 impl Flags {
@@ -180,12 +218,14 @@ impl Flags {
 }
 
 impl Base {
-    /// Kind and offset. An unknown base crosses as a kind that no record has.
+    /// Kind and offset. An unknown base crosses as a kind that no record has, but
+    /// none with an offset as it is: there the offset is what is wrong.
     fn parts(self) -> (u8, u32) {
         match self {
             Base::None => (0, 0),
             Base::Ram(offset) => (1, offset),
             Base::External(offset) => (2, offset),
+            Base::Unknown { kind: 0, offset } if offset != 0 => (0, offset),
             Base::Unknown { offset, .. } => (u8::MAX, offset),
         }
     }
@@ -255,10 +295,21 @@ mod tests {
             changed[at] = byte;
             Record::from_bytes(&changed)
         };
-        assert_eq!(with(36, 3), Err(Refusal::NoRecord));
-        assert_eq!(with(40, 1), Err(Refusal::NoRecord));
-        assert_eq!(with(43, 16), Err(Refusal::NoRecord));
+        for (at, byte, position) in [(36, 3, 36), (37, 1, 37), (40, 1, 37), (43, 16, 43)] {
+            assert_eq!(with(at, byte), Err(Refusal::NoRecord { position }));
+        }
         assert_eq!(with(42, 0xFF).map(|record| record.place), Ok(0xFF00));
+    }
+
+    #[test]
+    fn the_first_field_tells_the_position() {
+        let mut bytes = [0xFF; RECORD_LENGTH];
+        for (position, at, mended) in [(36, 36, 0), (37, 36, 1), (43, 43, 15)] {
+            let refused = Refusal::NoRecord { position };
+            assert_eq!(Record::from_bytes(&bytes), Err(refused));
+            bytes[at] = mended;
+        }
+        assert!(Record::from_bytes(&bytes).is_ok());
     }
 
     #[test]
@@ -266,8 +317,11 @@ mod tests {
         for (kind, offset) in [(0, 1), (3, 5), (255, 5), (256, 5), (u32::MAX, 5)] {
             assert_eq!(Base::of(kind, offset), Base::Unknown { kind, offset });
         }
-        for kind in [0, 1, 2, 3, 255, 256, u32::MAX] {
+        for kind in [1, 2, 3, 255, 256, u32::MAX] {
             assert_eq!(Base::Unknown { kind, offset: 5 }.parts(), (255, 5));
         }
+        let none_with = |offset| Base::Unknown { kind: 0, offset };
+        assert_eq!(none_with(5).parts(), (0, 5));
+        assert_eq!(none_with(0).parts(), (255, 0));
     }
 }

@@ -5,8 +5,11 @@ use std::fmt;
 
 use crate::words;
 
-/// Why a call is refused: 01's refusals, that of an unknown profile, and the
-/// library's own.
+/// Why a call is refused: 01's refusals, those of an unknown profile and of a
+/// record's fields, and the library's own.
+///
+/// Two say where in the record's 44 bytes the first field begins that fails, by
+/// its position, as [`AT_SP`](crate::AT_SP): [`words::field`] names it.
 #[derive(Clone, Copy, Debug, PartialEq, Eq)]
 #[non_exhaustive]
 pub enum Refusal {
@@ -16,43 +19,60 @@ pub enum Refusal {
     RamLength,
     /// 3: the external data is above 16,777,216 bytes or no multiple of 256.
     ExternalLength,
-    /// 4: the record isn't fit.
-    UnfitRecord,
     /// 5: the place isn't fit.
     UnfitPlace,
     /// 6: the stored form isn't 44 bytes.
     FormLength,
-    /// 7: the stored or given record is out of range. Where in it may be told
-    /// later, so that it is matched as `FormRange { .. }`.
+    /// 7: the stored or given record is out of range.
     #[non_exhaustive]
-    FormRange {},
+    FormRange {
+        /// 32 SP, 36 base kind, 37 base offset, 41 place, 43 flags.
+        position: u32,
+    },
     /// 8: the asked bundle isn't in the page.
     NoSuchBundle,
     /// 18, before all others: the number given to
     /// [`Program::profile`](crate::Program::profile) is no profile's.
     UnknownProfile,
+    /// 41: SP is below 0x10000 or above 0x18000.
+    SpBounds,
+    /// 42: SP is no multiple of 4.
+    SpAlignment,
+    /// 43: the RAM offset isn't below 2^20.
+    RamOffset,
+    /// 44: the external offset isn't below the external data's length.
+    ExternalOffset,
     /// 255, the library's own: the bytes hold no record. Of what a host can
     /// write, only [`Base::Unknown`](crate::Base::Unknown) brings it.
-    NoRecord,
+    #[non_exhaustive]
+    NoRecord {
+        /// 36 base kind, 37 offset with none, 43 flags; 0 for the length of raw
+        /// bytes.
+        position: u32,
+    },
     /// A number that this version doesn't know.
     Unknown(u32),
 }
 
 impl Refusal {
-    /// The refusal of what a call answers; 0 is none.
-    pub fn of(number: u32) -> Option<Refusal> {
+    /// The refusal of what a call answers, a number and the position beside it;
+    /// 0 is none.
+    pub fn of(number: u32, position: u32) -> Option<Refusal> {
         Some(match number {
             0 => return None,
             1 => Refusal::PageLength,
             2 => Refusal::RamLength,
             3 => Refusal::ExternalLength,
-            4 => Refusal::UnfitRecord,
             5 => Refusal::UnfitPlace,
             6 => Refusal::FormLength,
-            7 => Refusal::FormRange {},
+            7 => Refusal::FormRange { position },
             8 => Refusal::NoSuchBundle,
             18 => Refusal::UnknownProfile,
-            255 => Refusal::NoRecord,
+            41 => Refusal::SpBounds,
+            42 => Refusal::SpAlignment,
+            43 => Refusal::RamOffset,
+            44 => Refusal::ExternalOffset,
+            255 => Refusal::NoRecord { position },
             unknown => Refusal::Unknown(unknown),
         })
     }
@@ -63,14 +83,34 @@ impl Refusal {
             Refusal::PageLength => 1,
             Refusal::RamLength => 2,
             Refusal::ExternalLength => 3,
-            Refusal::UnfitRecord => 4,
             Refusal::UnfitPlace => 5,
             Refusal::FormLength => 6,
-            Refusal::FormRange {} => 7,
+            Refusal::FormRange { .. } => 7,
             Refusal::NoSuchBundle => 8,
             Refusal::UnknownProfile => 18,
-            Refusal::NoRecord => 255,
+            Refusal::SpBounds => 41,
+            Refusal::SpAlignment => 42,
+            Refusal::RamOffset => 43,
+            Refusal::ExternalOffset => 44,
+            Refusal::NoRecord { .. } => 255,
             Refusal::Unknown(number) => number,
+        }
+    }
+
+    /// The position that it carries.
+    ///
+    /// ```
+    /// use marshbodkin::{words, Record, AT_SP};
+    ///
+    /// let record = Record { sp: 0x17FFE, ..Record::default() };
+    /// let refused = record.store().unwrap_err();
+    /// assert_eq!((refused.number(), refused.position()), (7, Some(AT_SP)));
+    /// assert_eq!(words::field(AT_SP), "SP");
+    /// ```
+    pub fn position(self) -> Option<u32> {
+        match self {
+            Refusal::FormRange { position } | Refusal::NoRecord { position } => Some(position),
+            _ => None,
         }
     }
 }
@@ -78,15 +118,29 @@ impl Refusal {
 impl fmt::Display for Refusal {
     fn fmt(&self, f: &mut fmt::Formatter<'_>) -> fmt::Result {
         let number = self.number();
-        write!(f, "refused {number}: {}", words::refusal(number))
+        let said = words::refusal(number);
+        match self.position() {
+            None => write!(f, "refused {number}: {said}"),
+            // No field's, since r0 can't fail: it is the length of the bytes.
+            Some(0) => write!(f, "refused {number} 0: {said}"),
+            Some(position) => {
+                let field = words::field(position);
+                write!(f, "refused {number} {position}: {said} at {field}")
+            }
+        }
     }
 }
 
 impl Error for Refusal {}
 
-/// What a call's number says.
+/// What the number says of a call that tells no position.
 pub(crate) fn verdict(code: u32) -> Result<(), Refusal> {
-    match Refusal::of(code) {
+    verdict_at(code, 0)
+}
+
+/// What a call's number says, with the position beside it.
+pub(crate) fn verdict_at(code: u32, position: u32) -> Result<(), Refusal> {
+    match Refusal::of(code, position) {
         None => Ok(()),
         Some(refusal) => Err(refusal),
     }

@@ -4,7 +4,7 @@ use std::fmt;
 
 use crate::exit::Exit;
 use crate::raw::Answer;
-use crate::refusal::{verdict, Refusal};
+use crate::refusal::{verdict_at, Refusal};
 use crate::words;
 
 /// 01's faults.
@@ -166,7 +166,7 @@ pub struct Stopped {
 impl Stopped {
     /// What the numbers of an answer say.
     pub(crate) fn of(answer: Answer) -> Result<Stopped, Refusal> {
-        verdict(answer.code)?;
+        verdict_at(answer.code, answer.position)?;
         Ok(Stopped {
             stop: Stop::of(answer.kind, answer.value, answer.literal),
             steps: answer.steps,
@@ -185,6 +185,7 @@ mod tests {
             kind,
             value,
             literal: 0x8000_0002,
+            position: 37,
             steps: 9,
         })
     }
@@ -232,5 +233,12 @@ mod tests {
         assert_eq!(stop.to_string(), "stop 6: unknown");
         assert_eq!(Stop::of(3, 7, 0), Stop::Fault(Fault::Unknown(7)));
         assert_eq!(answer(9, 5, 9), Err(Refusal::Unknown(9)));
+    }
+
+    #[test]
+    fn a_refused_answer_keeps_its_position() {
+        let no_record = Refusal::NoRecord { position: 37 };
+        assert_eq!(answer(255, 5, 255), Err(no_record));
+        assert_eq!(answer(41, 5, 41), Err(Refusal::SpBounds));
     }
 }

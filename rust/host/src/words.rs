@@ -1,5 +1,7 @@
 //! What is said of a number: the table "Words" of `docs/MACHINE.md`.
 
+use crate::{AT_BASE_KIND, AT_BASE_OFFSET, AT_FLAGS, AT_PLACE, AT_R0, AT_SP};
+
 /// What is said of a number that has no words.
 const UNKNOWN: &str = "unknown";
 
@@ -10,13 +12,38 @@ pub fn refusal(number: u32) -> &'static str {
         1 => "page is above 256 bytes or no multiple of 4",
         2 => "RAM is not 32768 bytes",
         3 => "external data is above 16777216 bytes or no multiple of 256",
-        4 => "record is not fit",
         5 => "place is not fit",
         6 => "stored form, or the room lent for it, is not 44 bytes",
         7 => "stored or given record is out of range",
         8 => "asked bundle is not in the page",
         18 => "unknown profile",
+        41 => "SP is below 0x10000 or above 0x18000",
+        42 => "SP is no multiple of 4",
+        43 => "RAM offset is not below 2^20",
+        44 => "external offset is not below the external data's length",
         255 => "bytes hold no record",
+        _ => UNKNOWN,
+    }
+}
+
+/// The field of a record that begins at a position of its 44 bytes. To be asked only
+/// with 7, or with 255 and a position above 0, since 0, which is r0's, also stands
+/// where no field is told.
+pub fn field(position: u32) -> &'static str {
+    match position {
+        AT_R0 => "r0",
+        4 => "r1",
+        8 => "r2",
+        12 => "r3",
+        16 => "r4",
+        20 => "r5",
+        24 => "r6",
+        28 => "r7",
+        AT_SP => "SP",
+        AT_BASE_KIND => "base kind",
+        AT_BASE_OFFSET => "base offset",
+        AT_PLACE => "place",
+        AT_FLAGS => "flags",
         _ => UNKNOWN,
     }
 }

@@ -24,9 +24,10 @@ fn written() -> Table<'static> {
 }
 
 /// What is said of a number of each kind.
-fn said_of(number: u32) -> [((&'static str, u32), &'static str); 4] {
+fn said_of(number: u32) -> [((&'static str, u32), &'static str); 5] {
     [
         (("refusal", number), words::refusal(number)),
+        (("field", number), words::field(number)),
         (("fault", number), words::fault(number)),
         (("stop", number), words::stop(number)),
         (("exit", number), words::exit(number)),
@@ -43,17 +44,30 @@ fn said() -> Table<'static> {
 fn the_documents_words() {
     assert_eq!(said(), written());
     assert_eq!(words::refusal(u32::MAX), "unknown");
+    assert_eq!(words::field(u32::MAX), "unknown");
+}
+
+/// What stands behind the number and behind the words where the position 41 is
+/// told.
+fn told_at_41(number: u32) -> (&'static str, &'static str) {
+    match number {
+        7 | 255 => (" 41", " at place"),
+        _ => ("", ""),
+    }
 }
 
 #[test]
 fn refusals_and_faults_show_them() {
     for ((of, number), words) in written() {
-        match (of, Refusal::of(number)) {
+        match (of, Refusal::of(number, 41)) {
             ("refusal", None) => assert_eq!((number, words), (0, "accepted")),
             ("refusal", Some(refusal)) => {
                 assert_ne!(refusal, Refusal::Unknown(number));
                 assert_eq!(refusal.number(), number);
-                assert_eq!(refusal.to_string(), format!("refused {number}: {words}"));
+                let (position, field) = told_at_41(number);
+                let shown = format!("refused {number}{position}: {words}{field}");
+                assert_eq!(refusal.to_string(), shown);
+                assert_eq!(refusal.position().is_some(), !position.is_empty());
             }
             ("fault", _) => {
                 let fault = Fault::of(number);
@@ -64,7 +78,26 @@ fn refusals_and_faults_show_them() {
             _ => {}
         }
     }
-    assert_eq!(Refusal::of(9), Some(Refusal::Unknown(9)));
+    for number in [4, 9, 40, 45, u32::MAX] {
+        assert_eq!(Refusal::of(number, 41), Some(Refusal::Unknown(number)));
+    }
     assert_eq!(Refusal::Unknown(9).to_string(), "refused 9: unknown");
     assert_eq!(Fault::Unknown(7).to_string(), "fault 7: unknown");
+}
+
+/// Every field by its name; position 0 of bytes that aren't 44 names none.
+#[test]
+fn positions_are_shown() {
+    for ((of, position), field) in written() {
+        if of == "field" && position > 0 {
+            let refusal = Refusal::of(7, position).expect("a refusal");
+            assert_eq!(refusal.position(), Some(position));
+            let words = words::refusal(7);
+            let shown = format!("refused 7 {position}: {words} at {field}");
+            assert_eq!(refusal.to_string(), shown);
+        }
+    }
+    let length = Refusal::of(255, 0).expect("a refusal");
+    assert_eq!(length.position(), Some(0));
+    assert_eq!(length.to_string(), "refused 255 0: bytes hold no record");
 }

@@ -128,15 +128,62 @@ fn stored_and_read_back() {
     assert_eq!(Record::try_from(&stored[..]), Ok(record));
     assert_eq!(Record::load(&stored[1..]), Err(Refusal::FormLength));
 
-    let mut far_stored = stored;
-    far_stored[41] = 128;
-    let far = Record {
-        place: 128,
+    let none_with_offset = Record {
+        base: Base::Unknown { kind: 0, offset: 1 },
         ..record
     };
-    assert!(matches!(far.store(), Err(Refusal::FormRange { .. })));
-    let loaded = Record::load(&far_stored);
-    assert!(matches!(loaded, Err(Refusal::FormRange { .. })));
+    assert_eq!(none_with_offset.store().err(), Refusal::of(7, 37));
+}
+
+/// A record with one field out of range, at each position.
+fn out_of_range(position: u32) -> Record {
+    let mut record = full_record();
+    match position {
+        32 => record.sp = 0x10002,
+        36 => record.base = Base::Unknown { kind: 3, offset: 0 },
+        37 => record.base = Base::Ram(0x10_0000),
+        _ => record.place = 128,
+    }
+    record
+}
+
+#[test]
+fn a_store_tells_the_field() {
+    for position in [32, 36, 37, 41] {
+        let refused = Refusal::of(7, position);
+        let record = out_of_range(position);
+        assert_eq!(record.store().err(), refused);
+        assert_eq!(<[u8; RECORD_LENGTH]>::try_from(&record).err(), refused);
+        let low = Record { sp: 0, ..record };
+        assert_eq!(low.store().err(), Refusal::of(7, 32));
+    }
+    let refused = out_of_range(41).store().expect_err("out of range");
+    assert!(matches!(refused, Refusal::FormRange { position: 41, .. }));
+}
+
+/// One byte of a field changed, and with it any of a field behind.
+#[test]
+fn a_load_tells_the_first_field() {
+    let changes = [
+        (34, 0, 32),
+        (36, 3, 36),
+        (39, 0x10, 37),
+        (42, 1, 41),
+        (43, 16, 43),
+    ];
+    let stored = full_record().store().expect("in range");
+    for (number, (at, byte, position)) in changes.into_iter().enumerate() {
+        for (behind, other, _) in &changes[number..] {
+            let mut damaged = stored;
+            damaged[*behind] = *other;
+            damaged[at] = byte;
+            assert_eq!(Record::load(&damaged).err(), Refusal::of(7, position));
+            let tried = Record::try_from(&damaged[..]);
+            assert_eq!(tried.err(), Refusal::of(7, position));
+            let cut = Record::load(&damaged[..43]);
+            assert_eq!(cut, Err(Refusal::FormLength));
+        }
+    }
 }
 
 #[test]
@@ -346,42 +393,98 @@ fn check_refused(refusal: Refusal, setting: Setting, ram: usize, given: Record) 
     assert!(lent == filled_ram());
 }
 
-/// Everything wrong at first, and then mended part by part; an unknown profile is
-/// refused before each.
-#[test]
-fn refused_steps_and_runs() {
-    let (page, external) = (page_of(PRINTED), [0; 256]);
+/// The same of a program with external data, and an unknown profile is refused
+/// before.
+fn check_refused_behind_profile(
+    refusal: Refusal,
+    (program, external): (Program, &[u8]),
+    ram: usize,
+    given: Record,
+) {
+    let setting = |program| Setting::new(program).external(external);
+    check_refused(refusal, setting(program), ram, given);
+    for number in UNKNOWN_PROFILES {
+        let unknown = setting(program.profile(number));
+        check_refused(Refusal::UnknownProfile, unknown, ram, given);
+    }
+}
+
+/// Records with what each is refused by, given 256 bytes of external data: everything
+/// wrong at first, and then mended part by part.
+fn wrong_records() -> [(Refusal, Record); 6] {
     let far = Record {
         place: 6,
         ..full_record()
     };
-    let unfit = Record { sp: 0, ..far };
+    let past_ram = Record {
+        base: Base::Ram(0x10_0000),
+        ..far
+    };
+    let past_data = Record {
+        base: Base::External(256),
+        ..far
+    };
+    let odd_sp = Record {
+        sp: 0x17FFE,
+        ..past_ram
+    };
+    let low_sp = Record {
+        sp: 0xFFFE,
+        ..past_data
+    };
     let base = Base::Unknown { kind: 3, offset: 0 };
-    let no_record = Record { base, ..unfit };
-    let whole = Program::new(&page);
-    let (odd, odd_data) = (Program::new(&page[1..]), &external[1..]);
-    let short = RAM_LENGTH - 1;
+    let no_record = Record { base, ..low_sp };
+    let at_base_kind = Refusal::of(255, 36).expect("a refusal");
+    [
+        (at_base_kind, no_record),
+        (Refusal::SpBounds, low_sp),
+        (Refusal::SpAlignment, odd_sp),
+        (Refusal::RamOffset, past_ram),
+        (Refusal::ExternalOffset, past_data),
+        (Refusal::UnfitPlace, far),
+    ]
+}
+
+/// Everything wrong at first, and then mended part by part.
+#[test]
+fn refused_steps_and_runs() {
+    let (page, external) = (page_of(PRINTED), [0; 256]);
+    let (whole, odd) = (Program::new(&page), Program::new(&page[1..]));
+    let (odd_data, short) = (&external[1..], RAM_LENGTH - 1);
+    let records = wrong_records();
+    let (_, no_record) = records[0];
     let rows = [
-        (Refusal::PageLength, odd, odd_data, short, no_record),
-        (Refusal::RamLength, whole, odd_data, short, no_record),
-        (
-            Refusal::ExternalLength,
-            whole,
-            odd_data,
-            RAM_LENGTH,
-            no_record,
-        ),
-        (Refusal::NoRecord, whole, &external, RAM_LENGTH, no_record),
-        (Refusal::UnfitRecord, whole, &external, RAM_LENGTH, unfit),
-        (Refusal::UnfitPlace, whole, &external, RAM_LENGTH, far),
+        (Refusal::PageLength, odd, short),
+        (Refusal::RamLength, whole, short),
+        (Refusal::ExternalLength, whole, RAM_LENGTH),
     ];
-    for (refusal, program, external, ram, record) in rows {
-        let setting = |program| Setting::new(program).external(external);
-        check_refused(refusal, setting(program), ram, record);
-        for number in UNKNOWN_PROFILES {
-            let unknown = setting(program.profile(number));
-            check_refused(Refusal::UnknownProfile, unknown, ram, record);
-        }
+    for (refusal, program, ram) in rows {
+        check_refused_behind_profile(refusal, (program, odd_data), ram, no_record);
+    }
+    for (refusal, record) in records {
+        check_refused_behind_profile(refusal, (whole, &external), RAM_LENGTH, record);
+    }
+}
+
+/// What brings 255 in a record of the wrapper, and where.
+#[test]
+fn bases_that_no_record_has() {
+    let page = page_of(PRINTED);
+    for (kind, offset, position) in [
+        (0, 1, 37),
+        (0, u32::MAX, 37),
+        (0, 0, 36),
+        (2, 0, 36),
+        (3, 1, 36),
+    ] {
+        let base = Base::Unknown { kind, offset };
+        let record = Record {
+            base,
+            sp: 0,
+            ..Record::default()
+        };
+        let refused = Refusal::of(255, position).expect("a refusal");
+        check_refused(refused, alone(&page), RAM_LENGTH, record);
     }
 }
 
@@ -452,16 +555,22 @@ fn versions() {
 /// Bytes that hold no record.
 const NO_RECORD: [u8; RECORD_LENGTH] = [0xFF; RECORD_LENGTH];
 
-/// They meet 255 in a step and a run, after 18, 1, 2 and 3, and nothing changes.
-#[test]
-fn no_record_in_steps_and_runs() {
-    let refused = |code| raw::Answer {
+/// The numbers of a refused step or run.
+fn refused_numbers(code: u32, position: u32) -> raw::Answer {
+    raw::Answer {
         code,
         kind: 5,
         value: code,
         literal: 0,
+        position,
         steps: 0,
-    };
+    }
+}
+
+/// They meet 255 in a step and a run, after 18, 1, 2 and 3, and nothing changes.
+#[test]
+fn no_record_in_steps_and_runs() {
+    let refused = |code| refused_numbers(code, if code == 255 { 36 } else { 0 });
     let (odd, short): (&[u8], usize) = (&[0], RAM_LENGTH - 1);
     let rows = [
         (18, 2, odd, short, odd),
@@ -483,16 +592,30 @@ fn no_record_in_steps_and_runs() {
     assert!(ram == filled_ram());
 }
 
+/// Flags above 15 and other lengths, which no record of the wrapper crosses as.
+#[test]
+fn no_record_in_raw_bytes() {
+    let page = page_of(PRINTED);
+    let mut bytes = full_record().store().expect("in range");
+    bytes[43] = 16;
+    for (length, position) in [(0, 0), (43, 0), (44, 43)] {
+        let (mut ram, refused) = (filled_ram(), refused_numbers(255, position));
+        let record = &mut bytes[..length];
+        assert_eq!(raw::run(&page, 0, 0, &mut ram, &[], record, 9), refused);
+        assert_eq!(raw::step(&page, 0, 0, &mut ram, &[], record), refused);
+    }
+}
+
 /// Stored they are out of range, and nothing changes.
 #[test]
 fn no_record_stored() {
     let (mut ram, mut bytes) = (filled_ram(), NO_RECORD);
-    assert_eq!(raw::store(&bytes, &mut ram), 6);
-    assert_eq!(raw::store(&bytes, &mut ram[..RECORD_LENGTH]), 7);
-    assert_eq!(raw::load(&[], &mut bytes[1..]), 6);
-    assert_eq!(raw::load(&[], &mut bytes), 6);
-    assert_eq!(raw::load(&NO_RECORD, &mut bytes[1..]), 6);
-    assert_eq!(raw::load(&[0xFE; RECORD_LENGTH], &mut bytes), 7);
+    assert_eq!(raw::store(&bytes, &mut ram), (6, 0));
+    assert_eq!(raw::store(&bytes, &mut ram[..RECORD_LENGTH]), (7, 32));
+    assert_eq!(raw::load(&[], &mut bytes[1..]), (6, 0));
+    assert_eq!(raw::load(&[], &mut bytes), (6, 0));
+    assert_eq!(raw::load(&NO_RECORD, &mut bytes[1..]), (6, 0));
+    assert_eq!(raw::load(&[0xFE; RECORD_LENGTH], &mut bytes), (7, 32));
     assert_eq!(raw::fresh(&mut bytes[1..]), 6);
     assert_eq!(bytes, NO_RECORD);
     assert!(ram == filled_ram());

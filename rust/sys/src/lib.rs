@@ -51,12 +51,15 @@ extern "C" {
     /// Writes the fresh record.
     pub fn mb_raw_fresh(record: *mut u8, record_length: usize) -> u32;
 
-    /// Stores a record in the room.
+    /// Stores a record in the room. Here and below, `position` says with 7 and
+    /// 255 where the first failing field begins in the 44 bytes; else, and with 255
+    /// where the bytes aren't 44, it is 0.
     pub fn mb_raw_store(
         record: *const u8,
         record_length: usize,
         room: *mut u8,
         room_length: usize,
+        position: *mut u32,
     ) -> u32;
 
     /// Reads a stored form back.
@@ -65,9 +68,10 @@ extern "C" {
         stored_length: usize,
         record: *mut u8,
         record_length: usize,
+        position: *mut u32,
     ) -> u32;
 
-    /// Runs the record with a budget of steps; the four numbers say why and
+    /// Runs the record with a budget of steps; the five numbers say why and
     /// when it stopped.
     pub fn mb_raw_run(
         page: *const u8,
@@ -84,6 +88,7 @@ extern "C" {
         kind: *mut u32,
         value: *mut u32,
         literal: *mut u32,
+        position: *mut u32,
         steps: *mut u32,
     ) -> u32;
 
@@ -102,6 +107,7 @@ extern "C" {
         kind: *mut u32,
         value: *mut u32,
         literal: *mut u32,
+        position: *mut u32,
         steps: *mut u32,
     ) -> u32;
 
