@@ -8,11 +8,14 @@ use crate::second::exits::{exit_of, Exit};
 use crate::second::memory::validate;
 use crate::second::page::{Code, NeverReturn, Page};
 use crate::second::profile::{Profile, SMALL};
-use crate::second::record::{Base, Record, LAST_PLACE};
+use crate::second::record::{
+    unfit, Base, Fields, Record, AT_FLAGS, AT_KIND, AT_OFFSET, AT_PLACE, AT_SP, LAST_PLACE,
+    MOST_EXTERNAL,
+};
 use crate::second::rules::Rules;
 
 /// Each mistake's name, and the rules with it.
-pub const MISTAKES: [(&str, Rules); 18] = [
+pub const MISTAKES: [(&str, Rules); 26] = [
     (
         "lt-from-n",
         Rules {
@@ -139,7 +142,63 @@ pub const MISTAKES: [(&str, Rules); 18] = [
     (
         "place-128",
         Rules {
-            in_range: place_128,
+            out_of_range: place_128,
+            ..Rules::RIGHT
+        },
+    ),
+    (
+        "alignment-before-bounds",
+        Rules {
+            unfit: alignment_first,
+            ..Rules::RIGHT
+        },
+    ),
+    (
+        "external-by-most",
+        Rules {
+            unfit: |record, _, place_is_fit| unfit(record, MOST_EXTERNAL as usize, place_is_fit),
+            ..Rules::RIGHT
+        },
+    ),
+    (
+        "place-before-external",
+        Rules {
+            unfit: place_before_external,
+            ..Rules::RIGHT
+        },
+    ),
+    (
+        "last-failing-field",
+        Rules {
+            out_of_range: |fields| fields.out_of_range().last().copied(),
+            ..Rules::RIGHT
+        },
+    ),
+    (
+        "position-in-fields",
+        Rules {
+            out_of_range: position_in_fields,
+            ..Rules::RIGHT
+        },
+    ),
+    (
+        "none-offset-at-kind",
+        Rules {
+            out_of_range: none_offset_at_kind,
+            ..Rules::RIGHT
+        },
+    ),
+    (
+        "no-record-at-sp",
+        Rules {
+            no_record: no_record_at_sp,
+            ..Rules::RIGHT
+        },
+    ),
+    (
+        "no-record-at-last",
+        Rules {
+            no_record: |fields| fields.of_no_record().last().copied(),
             ..Rules::RIGHT
         },
     ),
@@ -273,13 +332,58 @@ fn base_one_off(v: u32, external: usize) -> Base {
 }
 
 /// A stored place may be one larger.
-fn place_128(record: &Record) -> bool {
-    let place = record.place.min(LAST_PLACE);
-    let nearly = Record {
-        place,
-        ..record.clone()
+fn place_128(fields: &Fields) -> Option<u8> {
+    let place = match fields.place {
+        128 => LAST_PLACE,
+        other => other,
     };
-    nearly.is_in_range() && record.place <= LAST_PLACE + 1
+    (Rules::RIGHT.out_of_range)(&Fields { place, ..*fields })
+}
+
+/// SP is tested to be a multiple of 4 before its bounds.
+fn alignment_first(record: &Record, external: usize, place_is_fit: bool) -> Option<u8> {
+    match record.sp % 4 {
+        0 => unfit(record, external, place_is_fit),
+        _ => Some(42),
+    }
+}
+
+/// The place is tested before an external offset.
+fn place_before_external(record: &Record, external: usize, place_is_fit: bool) -> Option<u8> {
+    match unfit(record, external, place_is_fit) {
+        Some(44) if !place_is_fit => Some(5),
+        right => right,
+    }
+}
+
+/// The position is the number of the field, not of its first byte.
+fn position_in_fields(fields: &Fields) -> Option<u8> {
+    let number = match (Rules::RIGHT.out_of_range)(fields)? {
+        AT_SP => 8,
+        AT_KIND => 9,
+        AT_OFFSET => 10,
+        AT_PLACE => 11,
+        AT_FLAGS => 12,
+        other => other,
+    };
+    Some(number)
+}
+
+/// An offset with none is told at the kind.
+fn none_offset_at_kind(fields: &Fields) -> Option<u8> {
+    match (Rules::RIGHT.out_of_range)(fields)? {
+        AT_OFFSET if fields.kind == 0 => Some(AT_KIND),
+        right => Some(right),
+    }
+}
+
+/// Bytes that hold no record are told at SP, where that is out of range too.
+fn no_record_at_sp(fields: &Fields) -> Option<u8> {
+    let right = (Rules::RIGHT.no_record)(fields)?;
+    match fields.out_of_range().first() {
+        Some(&AT_SP) => Some(AT_SP),
+        _ => Some(right),
+    }
 }
 
 /// The constant of a syscall is taken with the tail bit below it.

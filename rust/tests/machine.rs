@@ -6,7 +6,10 @@ use marshbodkin_check::second::arith::Flags;
 use marshbodkin_check::second::machine::{run, step, Stop};
 use marshbodkin_check::second::memory::{Fault, RAM_SIZE};
 use marshbodkin_check::second::page::Code;
-use marshbodkin_check::second::record::{read_back, store, Base, Record, STORED};
+use marshbodkin_check::second::record::{
+    read_back, store_bytes, stored_bytes, Base, Record, STORED,
+};
+use marshbodkin_check::second::refusal::Refusal;
 use marshbodkin_check::second::rules::Rules;
 
 const RIGHT: Rules = Rules::RIGHT;
@@ -39,22 +42,19 @@ fn refusals_come_in_order() {
         let answer = run(Code::plain(page), &mut ram, &vec![0; external], record, 5);
         assert_eq!((&answer.record, answer.steps), (record, 0));
         assert!(ram.iter().all(|&byte| byte == 7));
-        answer.stop
+        answer.stop.refusal()
     };
-    assert_eq!(refusal(&[0; 2], 0, 1, &unfit), Stop::Refused(1));
-    assert_eq!(refusal(&good, 0, 1, &unfit), Stop::Refused(2));
-    assert_eq!(refusal(&good, RAM_SIZE, 1, &unfit), Stop::Refused(3));
-    assert_eq!(refusal(&good, RAM_SIZE, 256, &unfit), Stop::Refused(4));
-    let external = with_base(Base::External(256));
-    assert_eq!(refusal(&good, RAM_SIZE, 256, &external), Stop::Refused(4));
-    let past_ram = with_base(Base::Ram(1 << 20));
-    assert_eq!(refusal(&good, RAM_SIZE, 0, &past_ram), Stop::Refused(4));
+    let refused = |number| Some(Refusal::plain(number));
+    assert_eq!(refusal(&[0; 2], 0, 1, &unfit), refused(1));
+    assert_eq!(refusal(&good, 0, 1, &unfit), refused(2));
+    assert_eq!(refusal(&good, RAM_SIZE, 1, &unfit), refused(3));
+    assert_eq!(refusal(&good, RAM_SIZE, 256, &unfit), refused(41));
     for place in [3, 4, 9] {
         let record = Record {
             place,
             ..Record::fresh()
         };
-        assert_eq!(refusal(&good, RAM_SIZE, 0, &record), Stop::Refused(5));
+        assert_eq!(refusal(&good, RAM_SIZE, 0, &record), refused(5));
     }
 }
 
@@ -145,13 +145,18 @@ fn sample() -> Record {
     }
 }
 
+/// Stores a record in the room lent.
+fn store(record: &Record, room: &mut [u8]) -> Option<Refusal> {
+    store_bytes(RIGHT, &stored_bytes(record), room)
+}
+
 #[test]
 fn stored_form_round_trips() {
     let bases = [Base::None, Base::Ram(0xF_FFFF), Base::External(0xFF_FFFF)];
     for base in bases {
         let record = Record { base, ..sample() };
         let mut room = [0xAA; STORED];
-        assert_eq!(store(RIGHT, &record, &mut room), None);
+        assert_eq!(store(&record, &mut room), None);
         assert_eq!(read_back(RIGHT, &room), (record, None));
     }
 }
@@ -159,7 +164,7 @@ fn stored_form_round_trips() {
 #[test]
 fn stored_form_has_the_papers_order() {
     let mut room = [0; STORED];
-    store(RIGHT, &sample(), &mut room);
+    store(&sample(), &mut room);
     assert_eq!(room[24..28], [4, 3, 2, 1]);
     assert_eq!(
         room[32..],
@@ -169,49 +174,48 @@ fn stored_form_has_the_papers_order() {
 
 #[test]
 fn storing_refuses() {
-    assert_eq!(store(RIGHT, &sample(), &mut [0; 43]), Some(6));
+    let length = Some(Refusal::plain(6));
+    assert_eq!(store(&sample(), &mut [0; 43]), length);
+    let sp = |sp| Record { sp, ..sample() };
+    let place = Record {
+        place: 128,
+        ..sample()
+    };
     let bad = [
-        Record {
-            sp: 0xFFFC,
-            ..sample()
-        },
-        Record {
-            sp: 0x10002,
-            ..sample()
-        },
-        Record {
-            place: 128,
-            ..sample()
-        },
-        with_base(Base::Ram(1 << 20)),
-        with_base(Base::External(1 << 24)),
+        (sp(0xFFFC), 32),
+        (sp(0x10002), 32),
+        (place, 41),
+        (with_base(Base::Ram(1 << 20)), 37),
+        (with_base(Base::External(1 << 24)), 37),
     ];
-    for record in bad {
+    for (record, position) in bad {
         let mut room = [0xAA; STORED];
-        assert_eq!(store(RIGHT, &record, &mut room), Some(7));
+        let refusal = store(&record, &mut room);
+        assert_eq!(refusal, Some(Refusal::at(7, position)));
         assert_eq!(room, [0xAA; STORED]);
     }
 }
 
 #[test]
 fn reading_back_refuses() {
-    assert_eq!(read_back(RIGHT, &[0; 45]), (Record::fresh(), Some(6)));
+    let length = (Record::fresh(), Some(Refusal::plain(6)));
+    assert_eq!(read_back(RIGHT, &[0; 45]), length);
     let mut good = [0; STORED];
-    store(RIGHT, &sample(), &mut good);
-    for (at, value) in [
-        (36, 3),
-        (36, 0),
-        (36, 1),
-        (40, 1),
-        (41, 128),
-        (43, 16),
-        (34, 2),
+    store(&sample(), &mut good);
+    for (at, value, position) in [
+        (36, 3, 36),
+        (36, 0, 37),
+        (36, 1, 37),
+        (40, 1, 37),
+        (41, 128, 41),
+        (43, 16, 43),
+        (34, 2, 32),
     ] {
         let mut bytes = good;
         bytes[at] = value;
         assert_eq!(
             read_back(RIGHT, &bytes),
-            (Record::fresh(), Some(7)),
+            (Record::fresh(), Some(Refusal::at(7, position))),
             "byte {at}"
         );
     }

@@ -1,12 +1,13 @@
 //! 02's small profile, by hand; and that the comparison finds mistakes about it,
 //! and misses what it did not meet.
 
+mod parts;
+
 use marshbodkin_check::assemble::{page_bytes, Bundle};
 use marshbodkin_check::compare::codes::UNKNOWN;
 use marshbodkin_check::compare::lacking::{CompareBranch, BRANCHES, WIDE};
 use marshbodkin_check::compare::tally::Tally;
-use marshbodkin_check::compare::{profiles, refusals, Comparison, Same};
-use marshbodkin_check::mistakes;
+use marshbodkin_check::compare::{profiles, refusals};
 use marshbodkin_check::random::{self, DEFAULT_SEED};
 use marshbodkin_check::second::count::{count_of, read_bundle_of, Reading};
 use marshbodkin_check::second::machine::{run, Stop};
@@ -14,6 +15,7 @@ use marshbodkin_check::second::memory::RAM_SIZE;
 use marshbodkin_check::second::page::{Code, NeverReturn};
 use marshbodkin_check::second::profile::{FULL, SMALL};
 use marshbodkin_check::second::record::{Base, Record};
+use marshbodkin_check::second::refusal::Refusal;
 use marshbodkin_check::second::rules::Rules;
 
 const RIGHT: Rules = Rules::RIGHT;
@@ -105,7 +107,7 @@ fn what_is_bad_is_no_place() {
     assert_eq!([0, 1].map(|place| stop(small, place)), [RETURNED; 2]);
     assert_eq!(
         [2, 3, 4, 8].map(|place| stop(small, place)),
-        [Stop::Refused(5); 4]
+        [Stop::Refused(Refusal::plain(5)); 4]
     );
 }
 
@@ -118,6 +120,7 @@ fn an_unknown_profile_is_refused_before_all_else() {
         base: Base::Ram(1 << 20),
         ..Record::fresh()
     };
+    let refused = Stop::Refused(Refusal::plain(18));
     for profile in UNKNOWN {
         for page in [&good[..], &[0; 3], &[0; 260]] {
             let code = Code::new(page, NeverReturn::ALL).under(profile);
@@ -129,7 +132,7 @@ fn an_unknown_profile_is_refused_before_all_else() {
             for (ram, external) in [(RAM_SIZE, 0), (0, 0), (RAM_SIZE, 1)] {
                 let mut ram = vec![7; ram];
                 let answer = run(code, &mut ram, &vec![0; external], &unfit, 5);
-                assert_eq!((answer.stop, answer.steps), (Stop::Refused(18), 0));
+                assert_eq!((answer.stop, answer.steps), (refused, 0));
                 assert_eq!(answer.record, unfit);
                 assert!(ram.iter().all(|&byte| byte == 7));
             }
@@ -159,36 +162,23 @@ fn the_small_count_is_never_larger() {
     );
 }
 
-/// A part with a mistake of that name, or with none.
-fn compared(part: fn(&mut Comparison) -> Same, name: &str) -> Same {
-    part(&mut Comparison {
-        rules: mistakes::rules(name).unwrap_or(RIGHT),
-        seed: DEFAULT_SEED,
-        tally: Tally::default(),
-    })
-}
-
 #[test]
 fn the_parts_find_mistakes_by_themselves() {
-    assert_eq!(compared(profiles::compare, ""), Ok(()));
-    for name in [
+    let in_profiles = [
         "small-with-cbnz",
         "small-with-movw",
         "full-behind-terminator",
         "profile-2-small",
         "count-without-profile",
         "run-without-profile",
-    ] {
-        assert!(mistakes::rules(name).is_some(), "{name}");
-        assert!(compared(profiles::compare, name).is_err(), "{name}");
-    }
-    assert_eq!(compared(refusals::compare, ""), Ok(()));
-    assert!(compared(refusals::compare, "profile-after-length").is_err());
+    ];
+    parts::check_finds(profiles::compare, &in_profiles);
+    parts::check_finds(refusals::compare, &["profile-after-length"]);
 }
 
 #[test]
 fn a_tally_misses_what_was_not_met() {
-    let missing = Tally::default().missing();
+    let failures = Tally::default().failures();
     for class in [
         "count 18",
         "reader 18",
@@ -206,6 +196,7 @@ fn a_tally_misses_what_was_not_met() {
         "profiles run: small",
         "profiles counted: 4294967295",
     ] {
-        assert!(missing.contains(&format!("{class} was not met")), "{class}");
+        let line = format!("{class} was not met");
+        assert!(failures.contains(&line), "{class}");
     }
 }

@@ -7,7 +7,11 @@ use marshbodkin_check::compare::{cases, records};
 use marshbodkin_check::random::{Random, DEFAULT_SEED};
 use marshbodkin_check::second::machine::{step, Stop};
 use marshbodkin_check::second::memory::RAM_SIZE;
-use marshbodkin_check::second::record::{stored_bytes, Base, Record, MOST_EXTERNAL};
+use marshbodkin_check::second::record::{
+    read_back, store_bytes, stored_bytes, Base, Record, MOST_EXTERNAL, STORED,
+};
+use marshbodkin_check::second::refusal::Refusal;
+use marshbodkin_check::second::rules::Rules;
 
 const STEPS: u64 = 20_000;
 const FORMS: u16 = 5000;
@@ -33,14 +37,27 @@ fn wrapped(record: &Record) -> wrapper::Record {
     }
 }
 
-/// The second program's stop as the wrapper has it, or the refusal's number.
-fn wrapped_stop(stop: Stop) -> Result<wrapper::Stop, u32> {
+/// A refusal's number and position.
+type NumberAndPosition = (u32, Option<u32>);
+
+/// Those of the second program's refusal.
+fn of_second(refusal: Refusal) -> NumberAndPosition {
+    (refusal.number.into(), refusal.position.map(u32::from))
+}
+
+/// Those of the wrapper's.
+fn of_wrapper(refusal: wrapper::Refusal) -> NumberAndPosition {
+    (refusal.number(), refusal.position())
+}
+
+/// The second program's stop as the wrapper has it, or its refusal.
+fn wrapped_stop(stop: Stop) -> Result<wrapper::Stop, NumberAndPosition> {
     Ok(match stop {
         Stop::Budget => wrapper::Stop::Budget,
         Stop::Service { low, literal } => wrapper::Stop::Service { low, literal },
         Stop::Fault(fault) => wrapper::Stop::Fault(wrapper::Fault::of(fault.number().into())),
         Stop::Unlisted => wrapper::Stop::Unlisted,
-        Stop::Refused(number) => return Err(number.into()),
+        Stop::Refused(refusal) => return Err(of_second(refusal)),
     })
 }
 
@@ -66,10 +83,7 @@ fn the_same_fields_after_a_step() {
         let setting = Setting::new(program).external(&external);
         let stopped = setting.step(&mut ram, &mut record);
         let stop = stopped.map(|stopped| stopped.stop);
-        assert_eq!(
-            stop.map_err(wrapper::Refusal::number),
-            wrapped_stop(expected.stop)
-        );
+        assert_eq!(stop.map_err(of_wrapper), wrapped_stop(expected.stop));
         assert_eq!(record, wrapped(&expected.record));
         assert!(ram == other);
     }
@@ -88,4 +102,29 @@ fn the_same_stored_form() {
         assert_eq!(packed[..], stored);
         assert_eq!(wrapper::Record::load(&stored), Ok(wrapped(&record)));
     }
+}
+
+#[test]
+fn the_same_refusals_of_a_form() {
+    let mut random = Random::of_page(DEFAULT_SEED, 10 << 40);
+    let mut met = [false; STORED];
+    for number in 0..FORMS {
+        let fit = Record {
+            place: 128 + number,
+            ..records::fit(&mut random, MOST_EXTERNAL as usize)
+        };
+        let record = match number % 4 {
+            0 => fit,
+            _ => records::unfit(&mut random, &fit, MOST_EXTERNAL as usize),
+        };
+        let stored = stored_bytes(&record);
+        let refusal = store_bytes(Rules::RIGHT, &stored, &mut [0; STORED]).expect("out of range");
+        met[usize::from(refusal.position.expect("a field"))] = true;
+        let packed = wrapped(&record).store();
+        assert_eq!(packed.map_err(of_wrapper), Err(of_second(refusal)));
+        assert_eq!(read_back(Rules::RIGHT, &stored).1, Some(refusal));
+        let loaded = wrapper::Record::load(&stored);
+        assert_eq!(loaded.map_err(of_wrapper), Err(of_second(refusal)));
+    }
+    assert!(met[32] && met[37] && met[41]);
 }

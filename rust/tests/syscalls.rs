@@ -1,17 +1,18 @@
 //! 02's syscalls that never return, by hand; and that the comparison finds
 //! mistakes about them, and misses them where it did not meet them.
 
+mod parts;
+
 use marshbodkin_check::assemble::{self as asm, page_bytes, Bundle};
 use marshbodkin_check::compare::shapes::{DIRECT, OTHERS};
 use marshbodkin_check::compare::tally::Tally;
-use marshbodkin_check::compare::{sets, syscalls, Comparison};
-use marshbodkin_check::mistakes;
-use marshbodkin_check::random::DEFAULT_SEED;
+use marshbodkin_check::compare::{sets, syscalls};
 use marshbodkin_check::second::count::{count_of, read_bundle_of, Reading};
 use marshbodkin_check::second::machine::{run, Answer, Stop};
 use marshbodkin_check::second::memory::RAM_SIZE;
 use marshbodkin_check::second::page::{Code, NeverReturn};
 use marshbodkin_check::second::record::{Base, Record};
+use marshbodkin_check::second::refusal::Refusal;
 use marshbodkin_check::second::rules::Rules;
 
 const RIGHT: Rules = Rules::RIGHT;
@@ -89,7 +90,8 @@ fn the_place_stays_at_a_last_syscall() {
 #[test]
 fn behind_a_last_syscall_is_no_place() {
     let page = [[0xDF80, 0xDF00]];
-    assert_eq!(run_from(&page, sets::only(0), 1).stop, Stop::Refused(5));
+    let refused = Stop::Refused(Refusal::plain(5));
+    assert_eq!(run_from(&page, sets::only(0), 1).stop, refused);
     assert_eq!(run_from(&page, sets::only(1), 1).stop, stopped(0x00));
 }
 
@@ -118,30 +120,19 @@ fn counts_of_the_shapes() {
 
 #[test]
 fn the_part_of_syscalls_finds_mistakes_by_itself() {
-    let compared = |rules| {
-        let mut comparison = Comparison {
-            rules,
-            seed: DEFAULT_SEED,
-            tally: Tally::default(),
-        };
-        syscalls::compare(&mut comparison)
-    };
-    assert_eq!(compared(RIGHT), Ok(()));
-    for name in [
+    let in_syscalls = [
         "set-one-off",
         "set-complement",
         "count-without-set",
         "run-without-set",
         "last-moves-on",
-    ] {
-        let rules = mistakes::rules(name).expect("a known mistake");
-        assert!(compared(rules).is_err(), "{name}");
-    }
+    ];
+    parts::check_finds(syscalls::compare, &in_syscalls);
 }
 
 #[test]
 fn a_tally_misses_what_was_not_met() {
-    let missing = Tally::default().missing();
+    let failures = Tally::default().failures();
     for class in [
         "last syscalls: in a first half",
         "last syscalls: in a second half",
@@ -155,6 +146,7 @@ fn a_tally_misses_what_was_not_met() {
         "sets run: empty",
         "sets run: full",
     ] {
-        assert!(missing.contains(&format!("{class} was not met")), "{class}");
+        let line = format!("{class} was not met");
+        assert!(failures.contains(&line), "{class}");
     }
 }

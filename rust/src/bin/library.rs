@@ -42,9 +42,9 @@ fn main() -> ExitCode {
         }
     };
     print!("{tally}");
-    let missing = tally.missing();
-    for class in &missing {
-        println!("not covered: {class}");
+    let failures = tally.failures();
+    for failure in &failures {
+        println!("failed: {failure}");
     }
-    ExitCode::from(u8::from(!missing.is_empty()))
+    ExitCode::from(u8::from(!failures.is_empty()))
 }

@@ -3,6 +3,7 @@
 
 #![forbid(unsafe_code)]
 
+use std::collections::BTreeMap;
 use std::fmt;
 use std::io::{self, ErrorKind, Write};
 use std::process::{Command, ExitCode, Stdio};
@@ -15,6 +16,8 @@ use marshbodkin_check::{mistakes, paper, show};
 
 const USAGE: &str = "programs [--break NAME] LISTER RUNNER [SEED [PAGES]]";
 const DEFAULT_PAGES: u64 = 400;
+/// What the runner, whose record is fit, refuses a page by. Both must be met.
+const REFUSALS: [u8; 2] = [1, 5];
 
 /// What the command line asks for.
 struct Request {
@@ -56,10 +59,18 @@ struct Tally {
     literal: u64,
     faults: [u64; 6],
     budget: u64,
-    refused: [u64; 8],
+    refused: BTreeMap<u8, u64>,
 }
 
 impl Tally {
+    /// Nothing seen yet.
+    fn new() -> Tally {
+        Tally {
+            refused: REFUSALS.map(|number| (number, 0)).into(),
+            ..Tally::default()
+        }
+    }
+
     /// Counts a page by the stop of its run.
     fn add(&mut self, stop: Stop) {
         self.pages += 1;
@@ -68,9 +79,15 @@ impl Tally {
             Stop::Service { .. } => self.literal += 1,
             Stop::Fault(fault) => self.faults[usize::from(fault.number()) - 1] += 1,
             Stop::Budget => self.budget += 1,
-            Stop::Refused(number) => self.refused[usize::from(number) - 1] += 1,
+            Stop::Refused(refusal) => *self.refused.entry(refusal.number).or_default() += 1,
             Stop::Unlisted => {}
         }
+    }
+
+    /// The refusals that were not met.
+    fn unmet(&self) -> Vec<u8> {
+        let unmet = self.refused.iter().filter(|(_, &seen)| seen == 0);
+        unmet.map(|(&number, _)| number).collect()
     }
 }
 
@@ -80,7 +97,7 @@ impl fmt::Display for Tally {
             f,
             "pages {} refused {} stops: service {} service-with-literal {}",
             self.pages,
-            self.refused.iter().sum::<u64>(),
+            self.refused.values().sum::<u64>(),
             self.service,
             self.literal
         )?;
@@ -88,8 +105,8 @@ impl fmt::Display for Tally {
             write!(f, " fault-{fault} {seen}")?;
         }
         write!(f, " budget {}", self.budget)?;
-        for number in [1, 5] {
-            write!(f, " refused-{number} {}", self.refused[number - 1])?;
+        for (number, seen) in &self.refused {
+            write!(f, " refused-{number} {seen}")?;
         }
         Ok(())
     }
@@ -142,10 +159,11 @@ fn compare(request: &Request, page: &[u8], tally: &mut Tally) -> io::Result<Opti
     Ok(None)
 }
 
-/// Compares on all pages; the answer tells whether all were equal.
+/// Compares on all pages; the answer tells whether all were equal, and each refusal
+/// was met.
 fn compare_all(request: &Request) -> io::Result<bool> {
     println!("seed {}", request.seed);
-    let mut tally = Tally::default();
+    let mut tally = Tally::new();
     let own = paper::PAGES
         .iter()
         .map(|page| (format!("fixed: {}", page.name), page.bytes()));
@@ -158,7 +176,11 @@ fn compare_all(request: &Request) -> io::Result<bool> {
         }
     }
     println!("{tally}");
-    Ok(true)
+    let unmet = tally.unmet();
+    for number in &unmet {
+        println!("failed: refused-{number} was not met");
+    }
+    Ok(unmet.is_empty())
 }
 
 fn main() -> ExitCode {
@@ -173,5 +195,23 @@ fn main() -> ExitCode {
             eprintln!("cannot compare: {error}");
             ExitCode::from(2)
         }
+    }
+}
+
+#[cfg(test)]
+mod tests {
+    use super::*;
+    use marshbodkin_check::second::refusal::Refusal;
+
+    #[test]
+    fn each_refusal_must_be_met() {
+        let mut tally = Tally::new();
+        assert_eq!(tally.unmet(), [1, 5]);
+        let shown = tally.to_string();
+        assert!(shown.ends_with(" refused-1 0 refused-5 0"), "{shown}");
+        tally.add(Stop::Refused(Refusal::plain(5)));
+        assert_eq!(tally.unmet(), [1]);
+        tally.add(Stop::Refused(Refusal::plain(1)));
+        assert_eq!(tally.unmet(), []);
     }
 }

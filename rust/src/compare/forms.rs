@@ -1,7 +1,7 @@
 //! The stored form: every byte of some records with every value, every length
 //! near 44, and round trips.
 
-use super::records;
+use super::records::{self, FILLING};
 use super::sides::{Handed, Rams};
 use super::{Comparison, Same};
 use crate::assemble::{self as asm, page_bytes};
@@ -11,8 +11,6 @@ use crate::second::record::{stored_bytes, Base, Record, MOST_EXTERNAL, STORED};
 
 /// How many random records are stored and read back.
 const ROUND_TRIPS: usize = 5000;
-/// What room holds before a call.
-const FILLING: u8 = 0xAA;
 
 /// The whole part.
 pub fn compare(comparison: &mut Comparison) -> Same {
@@ -100,8 +98,8 @@ fn round_trips(comparison: &mut Comparison) -> Same {
         let place = random.field(128);
         let record = records::fit(&mut random, MOST_EXTERNAL as usize);
         let bytes = stored_bytes(&Record { place, ..record });
-        let stored = comparison.store(&bytes, &[FILLING; STORED])?;
-        let loaded = comparison.load(&stored, &[FILLING; STORED])?;
+        let (_, stored) = comparison.store(&bytes, &[FILLING; STORED])?;
+        let (_, loaded) = comparison.load(&stored, &[FILLING; STORED])?;
         if loaded != bytes {
             let bytes = crate::show::bytes(&bytes);
             return Err(format!("a record did not come back: {bytes}"));

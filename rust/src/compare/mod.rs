@@ -2,16 +2,18 @@
 //! bytes on both sides. No expected answer comes from the library.
 //!
 //! - [`sides`]: each call on both sides, and [`report`] for a difference.
-//! - [`profiles`], [`refusals`], [`syscalls`], [`exits`], [`forms`], [`reader`],
-//!   [`steps`], [`pages`], [`fixed`]: the parts. Each stops at its first difference.
+//! - [`profiles`], [`refusals`], [`fields`], [`syscalls`], [`exits`], [`forms`],
+//!   [`reader`], [`steps`], [`pages`], [`fixed`]: the parts. Each stops at its first difference.
 //! - [`records`], [`cases`], [`codes`], [`sets`], [`shapes`] and [`lacking`]: what
 //!   the parts hand over; [`calls`]: what several of them call.
-//! - [`tally`]: what was met; a class that was not is a failure too.
+//! - [`tally`]: what was met; a class that was not is a failure too, and so is an
+//!   answer that its call can't give.
 
 pub mod calls;
 pub mod cases;
 pub mod codes;
 pub mod exits;
+pub mod fields;
 pub mod fixed;
 pub mod forms;
 pub mod lacking;
@@ -47,9 +49,10 @@ type Part = (&'static str, fn(&mut Comparison) -> Same);
 
 /// The parts that meet most kinds soonest come first: a mistake is found there in
 /// a moment.
-const PARTS: [Part; 9] = [
+const PARTS: [Part; 10] = [
     ("profiles", profiles::compare),
     ("refusals", refusals::compare),
+    ("fields", fields::compare),
     ("syscalls", syscalls::compare),
     ("exits", exits::compare),
     ("forms", forms::compare),

@@ -168,32 +168,55 @@ pub fn fit(random: &mut Random, external: usize) -> Record {
     }
 }
 
+/// SPs out of range that are multiples of 4.
+pub const SP_OUT: [u32; 6] = [0xFFFC, 0x1_8004, 0, 0x11_0000, 0x8001_0000, 0xFFFF_FFFC];
+/// SPs in range that are no multiples of 4.
+pub const SP_UNALIGNED: [u32; 6] = [0x1_0001, 0x1_0002, 0x1_0003, 0x1_7FFD, 0x1_7FFE, 0x1_7FFF];
+/// SPs out of range that are no multiples of 4.
+pub const SP_OUT_UNALIGNED: [u32; 6] = [0xFFFE, 0xFFFF, 0x1_8001, 0x1_8002, 1, u32::MAX];
+/// RAM offsets out of range.
+pub const RAM_OUT: [u32; 5] = [RAM_OFFSETS, RAM_OFFSETS + 1, 1 << 24, 1 << 31, u32::MAX];
+
+/// An external offset that is not below so much data's length.
+pub fn past_external(random: &mut Random, external: usize) -> u32 {
+    external as u32 + random.pick(&[0, 1, 255, 256, 1 << 30])
+}
+
 /// The record with SP or base out of range, for so much external data.
 pub fn unfit(random: &mut Random, record: &Record, external: usize) -> Record {
     let mut record = record.clone();
-    let sps = [0, 0xFFFC, 0x1_0001, 0x1_0002, 0x1_7FFF, 0x1_8004, 0x1_8001];
     match random.below(5) {
-        0 => record.sp = random.pick(&sps),
-        1 => record.sp = random.pick(&[0x8001_0000, u32::MAX, 0x11_0000]),
-        2 => record.base = Base::Ram(RAM_OFFSETS + random.below(3) as u32),
-        3 => record.base = Base::Ram(random.pick(&[u32::MAX, 1 << 24, 1 << 31])),
-        _ => {
-            let past = external as u32 + random.pick(&[0, 1, 255, 256, 1 << 30]);
-            record.base = Base::External(past);
-        }
+        0 => record.sp = random.pick(&SP_OUT),
+        1 => record.sp = random.pick(&SP_UNALIGNED),
+        2 => record.sp = random.pick(&SP_OUT_UNALIGNED),
+        3 => record.base = Base::Ram(random.pick(&RAM_OUT)),
+        _ => record.base = Base::External(past_external(random, external)),
     }
     record
 }
 
-/// The bytes spoilt so that they hold no record.
-pub fn spoil(random: &mut Random, bytes: &mut Vec<u8>) {
-    match random.below(4) {
-        0 => bytes.resize(random.pick(&[0, 1, 36, 43, 45, 88, 100]), 0),
-        1 => bytes[36] = random.between(3, 255) as u8,
-        2 => bytes[43] = random.between(16, 255) as u8,
-        _ => {
-            bytes[36] = 0;
-            bytes[37 + random.below(4)] |= 1 << random.below(8);
-        }
+/// What room for a stored form holds before a call.
+pub const FILLING: u8 = 0xAA;
+
+/// The positions at which bytes are spoilt, so that they hold no record; with
+/// none, their length is wrong. At 36 and 37 the base is overwritten: an offset for
+/// refusal 43 or 44 can stay wrong only where the length or the flags alone are
+/// spoilt.
+pub const SPOILS: [&[u8]; 7] = [&[], &[36], &[37], &[43], &[36, 37], &[36, 43], &[37, 43]];
+
+/// The bytes spoilt at these positions.
+pub fn spoil(random: &mut Random, bytes: &mut Vec<u8>, positions: &[u8]) {
+    if positions.is_empty() {
+        bytes.resize(random.pick(&[0, 1, 36, 43, 45, 88, 100]), 0);
+    }
+    if positions.contains(&37) {
+        bytes[36] = 0;
+        bytes[37 + random.below(4)] |= 1 << random.below(8);
+    }
+    if positions.contains(&36) {
+        bytes[36] = random.between(3, 255) as u8;
+    }
+    if positions.contains(&43) {
+        bytes[43] = random.between(16, 255) as u8;
     }
 }

@@ -1,32 +1,56 @@
 //! Refusals of steps and runs, alone and together, and base validation. The
-//! number is also known from the papers' order, without either side, and so is
-//! that nothing lent changes.
+//! number and its position are also known from the papers' order, without either
+//! side, and so is that nothing lent changes.
 
 use super::codes::{self, UNKNOWN};
-use super::records;
-use super::sides::{Handed, Rams, NO_RECORD};
+use super::records::{self, SPOILS};
+use super::sides::{Handed, Rams, Told, NO_RECORD};
 use super::steps::noise;
 use super::{Comparison, Same};
 use crate::assemble::{self as asm, page_bytes};
 use crate::random::Random;
 use crate::second::memory::RAM_SIZE;
 use crate::second::page::Code;
-use crate::second::record::{stored_bytes, MOST_EXTERNAL};
+use crate::second::record::{stored_bytes, Base, Record, MOST_EXTERNAL, STORED};
 
-/// How often each choice of wrong things is made.
-const TIMES: usize = 30;
+/// How often each choice of wrong things is made; bytes are spoilt in every way,
+/// by turns.
+const TIMES: usize = 2 * SPOILS.len();
 /// Most bytes of external data.
 const MOST: usize = MOST_EXTERNAL as usize;
 
-/// What can be wrong, by bit: page, RAM, external data, record and place (1 to
-/// 5), the bytes of the record, and the profile.
-const PAGE: u32 = 1;
-const RAM: u32 = 2;
-const EXTERNAL: u32 = 4;
-const RECORD: u32 = 8;
-const PLACE: u32 = 16;
-const BYTES: u32 = 32;
-const PROFILE: u32 = 64;
+/// The refusals of a step and a run, in the papers' order, with the library's own.
+const ORDER: [u32; 10] = [18, 1, 2, 3, NO_RECORD, 41, 42, 43, 44, 5];
+
+/// A choice of wrong things: bit n stands for the n-th refusal of the order.
+#[derive(Clone, Copy)]
+struct Wrong(u32);
+
+impl Wrong {
+    /// All choices that can be: one base is not of both kinds.
+    fn all() -> impl Iterator<Item = Wrong> {
+        let choices = (0..1 << ORDER.len()).map(Wrong);
+        choices.filter(|wrong| !(wrong.has(43) && wrong.has(44)))
+    }
+
+    /// Whether what this refusal is about is wrong.
+    fn has(self, number: u32) -> bool {
+        let mut chosen = (0..).zip(ORDER).filter(|(bit, _)| self.0 >> bit & 1 == 1);
+        chosen.any(|(_, chosen)| chosen == number)
+    }
+
+    /// What is told of the first wrong thing, with bytes spoilt at these positions.
+    fn told(self, spoilt: &[u8]) -> Told {
+        match ORDER.get(self.0.trailing_zeros() as usize) {
+            None => Told::ACCEPTED,
+            Some(&NO_RECORD) => {
+                let first = spoilt.first().copied().unwrap_or(0);
+                Told::at(NO_RECORD, first.into())
+            }
+            Some(&number) => Told::plain(number),
+        }
+    }
+}
 
 /// The whole part.
 pub fn compare(comparison: &mut Comparison) -> Same {
@@ -35,25 +59,16 @@ pub fn compare(comparison: &mut Comparison) -> Same {
     let last = noise(&mut random, 512);
     external[..512].copy_from_slice(&last);
     external[MOST - 512..MOST].copy_from_slice(&last);
-    for wrong in 0..128 {
+    for wrong in Wrong::all() {
         for time in 0..TIMES {
             together(comparison, &mut random, wrong, time, &external)?;
         }
     }
+    for length in [0, 256, 512, MOST] {
+        ends_of_external(comparison, &mut random, &external[..length])?;
+    }
     validations(comparison, &mut random, &external)?;
     most_external(comparison, &mut random, &external[..MOST])
-}
-
-/// The number that a call with these wrong things answers: the lowest one's,
-/// but the profile's stands before all, and where there is no record, that
-/// stands before 4.
-fn expected(wrong: u32) -> u32 {
-    match wrong {
-        0 => 0,
-        _ if wrong & PROFILE != 0 => 18,
-        _ if wrong & (PAGE | RAM | EXTERNAL) == 0 && wrong & BYTES != 0 => NO_RECORD,
-        _ => wrong.trailing_zeros() + 1,
-    }
 }
 
 /// A page of 63 bundles, of which 60 are counted; bundle 3 has no second place.
@@ -92,21 +107,26 @@ fn external_length(random: &mut Random, wrong: bool, time: usize) -> usize {
     }
 }
 
-/// The bytes of a record for [`good_page`] and so much external data.
-fn record(random: &mut Random, wrong: u32, external: usize) -> Vec<u8> {
+/// A record for [`good_page`] and so much external data.
+fn record(random: &mut Random, wrong: Wrong, external: usize) -> Record {
     let mut record = records::fit(random, external - external % 256);
-    if wrong & RECORD != 0 {
-        record = records::unfit(random, &record, external);
+    match (wrong.has(41), wrong.has(42)) {
+        (false, false) => {}
+        (true, false) => record.sp = random.pick(&records::SP_OUT),
+        (false, true) => record.sp = random.pick(&records::SP_UNALIGNED),
+        (true, true) => record.sp = random.pick(&records::SP_OUT_UNALIGNED),
     }
-    record.place = match wrong & PLACE != 0 {
+    if wrong.has(43) {
+        record.base = Base::Ram(random.pick(&records::RAM_OUT));
+    }
+    if wrong.has(44) {
+        record.base = Base::External(records::past_external(random, external));
+    }
+    record.place = match wrong.has(5) {
         true => random.pick(&[7, 120, 121, 124, 126, 127, 128, 250, 32_768, 65_535]),
         false => random.pick(&[0, 1, 2, 6, 8, 9, 118, 119]),
     };
-    let mut bytes = stored_bytes(&record);
-    if wrong & BYTES != 0 {
-        records::spoil(random, &mut bytes);
-    }
-    bytes
+    record
 }
 
 /// The number of a profile; each unknown one by turns.
@@ -121,35 +141,92 @@ fn profile(random: &mut Random, wrong: bool, time: usize) -> u32 {
 fn together(
     comparison: &mut Comparison,
     random: &mut Random,
-    wrong: u32,
+    wrong: Wrong,
     time: usize,
     external: &[u8],
 ) -> Same {
-    let page = page(random, wrong & PAGE != 0);
-    let length = external_length(random, wrong & EXTERNAL != 0, time);
-    let record = record(random, wrong, length);
-    let ram = vec![0x5A; ram_length(random, wrong & RAM != 0)];
-    let mut rams = Rams::new(ram.clone());
-    let profile = profile(random, wrong & PROFILE != 0, time);
+    let page = page(random, wrong.has(1));
+    let length = external_length(random, wrong.has(3), time);
+    let spoilt = SPOILS[time % SPOILS.len()];
+    let mut record = stored_bytes(&record(random, wrong, length));
+    if wrong.has(NO_RECORD) {
+        records::spoil(random, &mut record, spoilt);
+    }
+    let mut rams = Rams::new(vec![0x5A; ram_length(random, wrong.has(2))]);
+    let profile = profile(random, wrong.has(18), time);
     let handed = Handed {
         code: codes::any(random, &page).under(profile),
         external: &external[..length],
         record: &record,
         budget: random.pick(&[0, 1, 5, u32::MAX]),
     };
-    let ran = comparison.run(&handed, &mut rams)?;
-    let stepped = comparison.step(&handed.with_budget(1), &mut rams)?;
-    let known = expected(wrong);
-    for given in [ran, stepped] {
-        let answered = given.numbers.code;
-        let untouched = given.record == record && rams.library == ram;
-        if answered != known || known != 0 && !untouched {
+    run_and_step(comparison, &handed, &mut rams, wrong.told(spoilt))
+        .map_err(|found| format!("wrong things {:010b}: {found}", wrong.0))
+}
+
+/// A run and a step whose answer is known from the papers. Refused, they change
+/// nothing.
+fn run_and_step(
+    comparison: &mut Comparison,
+    handed: &Handed,
+    rams: &mut Rams,
+    papers: Told,
+) -> Same {
+    let ram = rams.library.clone();
+    let ran = comparison.run(handed, rams)?;
+    let stepped = comparison.step(&handed.with_budget(1), rams)?;
+    for (call, given) in [("run", ran), ("step", stepped)] {
+        given.told().held_to(papers, call)?;
+        let untouched = given.record == handed.record && rams.library == ram;
+        if papers != Told::ACCEPTED && !untouched {
             return Err(format!(
-                "wrong things {wrong:07b}: both sides answer {answered}, the papers {known}; record and RAM untouched: {untouched}"
+                "{call}: both sides refuse, but change record or RAM"
             ));
         }
     }
     Ok(())
+}
+
+/// External offsets at the end of the data and at 2^24: a step and a run hold
+/// them to the data's length, storing and reading back to 2^24.
+fn ends_of_external(comparison: &mut Comparison, random: &mut Random, external: &[u8]) -> Same {
+    let (page, length) = (good_page(), external.len());
+    let mut rams = Rams::zero();
+    for offset in [length.saturating_sub(1), length, MOST - 1, MOST] {
+        let base = Base::External(offset as u32);
+        let record = stored_bytes(&Record {
+            base,
+            ..records::fit(random, length)
+        });
+        let handed = Handed {
+            code: codes::any(random, &page),
+            external,
+            record: &record,
+            budget: 5,
+        };
+        end_of_external(comparison, &handed, &mut rams, offset)
+            .map_err(|found| format!("offset {offset} of {length} bytes: {found}"))?;
+    }
+    Ok(())
+}
+
+/// One such offset, of a record that is fit but for it.
+fn end_of_external(
+    comparison: &mut Comparison,
+    handed: &Handed,
+    rams: &mut Rams,
+    offset: usize,
+) -> Same {
+    let (run, form) = match offset {
+        MOST => (Told::plain(44), Told::at(7, 37)),
+        _ if offset >= handed.external.len() => (Told::plain(44), Told::ACCEPTED),
+        _ => (Told::ACCEPTED, Told::ACCEPTED),
+    };
+    run_and_step(comparison, handed, rams, run)?;
+    let (stored, _) = comparison.store(handed.record, &[0; STORED])?;
+    stored.held_to(form, "store")?;
+    let (loaded, _) = comparison.load(handed.record, &[0; STORED])?;
+    loaded.held_to(form, "load")
 }
 
 /// Addresses at the edges and others, with external data of right and wrong

@@ -2,7 +2,7 @@
 
 use std::fmt::Debug;
 
-use super::sides::{record_in, Given, Handed};
+use super::sides::{record_in, Given, Handed, Told};
 use crate::second::page::Code;
 use crate::second::record::Base;
 use crate::show;
@@ -106,8 +106,11 @@ pub fn exit<T: Debug>(low: u32, literal: u32, library: T, second: T) -> String {
 }
 
 /// A difference of storing or reading back; the library's side comes first.
-pub fn form(call: &str, from: &[u8], room: &[u8], sides: [(u32, &Vec<u8>); 2]) -> String {
-    let side = |(code, bytes): (u32, &Vec<u8>)| format!("{code}, {}", show::bytes(bytes));
+pub fn form(call: &str, from: &[u8], room: &[u8], sides: [(Told, &Vec<u8>); 2]) -> String {
+    let side = |(told, bytes): (Told, &Vec<u8>)| {
+        let Told { code, position } = told;
+        format!("{code} at {position}, {}", show::bytes(bytes))
+    };
     let [library, second] = sides.map(side);
     format!(
         "{call}\nfrom ({} bytes): {}\nroom ({} bytes): {}\nlibrary: {library}\nsecond program: {second}\n",

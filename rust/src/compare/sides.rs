@@ -7,18 +7,58 @@ use super::report;
 use super::{Comparison, Same};
 use crate::second::count::{count_of, read_bundle_of, Reading};
 use crate::second::exits::Exit;
-use crate::second::machine::{run_by, Answer, Stop};
+use crate::second::machine::{run_bytes, Stop};
 use crate::second::memory::{validate_with, RAM_SIZE};
 use crate::second::page::Code;
 use crate::second::profile::{FULL, SMALL};
-use crate::second::record::{parse, read_back, store, stored_bytes, Base, Record, STORED};
+use crate::second::record::{given, read_back, store_bytes, stored_bytes, Base, Record, STORED};
+use crate::second::refusal::Refusal;
 use crate::second::rules::Rules;
 
-/// The host's own number: the bytes hold no record.
+/// The library's own number: the bytes hold no record.
 pub const NO_RECORD: u32 = 255;
-/// 01's refusals of storing and reading back.
-const FORM_LENGTH: u32 = 6;
-const FORM_RANGE: u32 = 7;
+/// 01's refusal of a form or a room that is not of 44 bytes.
+const FORM_LENGTH: Told = Told::plain(6);
+
+/// A code, and the position that comes back beside it: 0 where none is carried.
+#[derive(Clone, Copy, Debug, PartialEq, Eq, PartialOrd, Ord)]
+pub struct Told {
+    pub code: u32,
+    pub position: u32,
+}
+
+impl Told {
+    /// The call is not refused.
+    pub const ACCEPTED: Told = Told::plain(0);
+
+    /// A code that carries nothing.
+    pub const fn plain(code: u32) -> Told {
+        Told { code, position: 0 }
+    }
+
+    /// A code with a position.
+    pub const fn at(code: u32, position: u32) -> Told {
+        Told { code, position }
+    }
+
+    /// What the second program's refusal is told by.
+    fn of(refusal: Option<Refusal>) -> Told {
+        refusal.map_or(Told::ACCEPTED, |refusal| Told {
+            code: refusal.number.into(),
+            position: refusal.position.map_or(0, u32::from),
+        })
+    }
+
+    /// That a call on which both sides are equal also answers as the papers say.
+    pub fn held_to(self, papers: Told, call: &str) -> Same {
+        if self == papers {
+            return Ok(());
+        }
+        Err(format!(
+            "{call}: both sides answer {self:?}, the papers {papers:?}"
+        ))
+    }
+}
 
 /// What a step or a run is handed beside RAM. A step has budget 1.
 #[derive(Clone, Copy)]
@@ -43,11 +83,20 @@ pub struct Given {
     pub record: Vec<u8>,
 }
 
+impl Given {
+    /// The code and its position.
+    pub fn told(&self) -> Told {
+        Told::at(self.numbers.code, self.numbers.position)
+    }
+}
+
 /// A RAM for each side, equal before and after each call.
 #[derive(Clone)]
 pub struct Rams {
     pub library: Vec<u8>,
     pub second: Vec<u8>,
+    /// What the library's run with budget 1 has in a step; after a run it is
+    /// empty, and the next step copies it anew.
     spare: Vec<u8>,
 }
 
@@ -74,65 +123,40 @@ fn code(refusal: Option<u8>) -> u32 {
 
 /// The record that bytes hold, if they hold one.
 pub fn record_in(bytes: &[u8]) -> Option<Record> {
-    (bytes.len() == STORED).then(|| parse(bytes)).flatten()
+    given(Rules::RIGHT, bytes).ok()
 }
 
-/// The second program's stop in the library's numbers.
-fn numbers(answer: &Answer) -> Numbers {
-    let (code, kind, value, literal) = match answer.stop {
-        Stop::Budget => (0, 0, 0, 0),
-        Stop::Service { low, literal: None } => (0, 1, low, 0),
+/// The second program's stop and steps in the library's numbers.
+fn numbers(stop: Stop, steps: u32) -> Numbers {
+    let (kind, value, literal) = match stop {
+        Stop::Budget => (0, 0, 0),
+        Stop::Service { low, literal: None } => (1, low, 0),
         Stop::Service {
             low,
             literal: Some(word),
-        } => (0, 2, low, word),
-        Stop::Fault(fault) => (0, 3, fault.number(), 0),
-        Stop::Unlisted => (0, 4, 0, 0),
-        Stop::Refused(number) => (number, 5, number, 0),
+        } => (2, low, word),
+        Stop::Fault(fault) => (3, fault.number(), 0),
+        Stop::Unlisted => (4, 0, 0),
+        Stop::Refused(refusal) => (5, refusal.number, 0),
     };
+    let Told { code, position } = Told::of(stop.refusal());
     Numbers {
-        code: u32::from(code),
+        code,
         kind,
         value: u32::from(value),
         literal,
-        steps: answer.steps,
-    }
-}
-
-/// What answers a step or a run that is handed no record: 18 by the profile, 1, 2
-/// or 3 by what is lent, else 255.
-fn areas_code(handed: &Handed, ram: usize) -> u32 {
-    let (page, external) = (handed.code.page.len(), handed.external.len());
-    match () {
-        _ if handed.code.profile > SMALL => 18,
-        _ if page > 256 || page % 4 != 0 => 1,
-        _ if ram != RAM_SIZE => 2,
-        _ if external > 16_777_216 || external % 256 != 0 => 3,
-        _ => NO_RECORD,
+        position,
+        steps,
     }
 }
 
 /// A run of the second program.
 fn second_run(rules: Rules, handed: &Handed, ram: &mut [u8]) -> Given {
-    let Some(record) = record_in(handed.record) else {
-        let code = areas_code(handed, ram.len());
-        let numbers = Numbers {
-            code,
-            kind: 5,
-            value: code,
-            ..Numbers::default()
-        };
-        return Given {
-            numbers,
-            record: handed.record.to_vec(),
-        };
-    };
-    let (code, external) = (handed.code, handed.external);
-    let answer = run_by(rules, code, ram, external, &record, handed.budget);
-    Given {
-        numbers: numbers(&answer),
-        record: stored_bytes(&answer.record),
-    }
+    let mut record = handed.record.to_vec();
+    let (code, external, budget) = (handed.code, handed.external, handed.budget);
+    let (stop, steps) = run_bytes(rules, code, ram, external, &mut record, budget);
+    let numbers = numbers(stop, steps);
+    Given { numbers, record }
 }
 
 /// A page, its set and its profile as the library takes them.
@@ -210,6 +234,7 @@ fn exit_numbers(exit: Option<Exit>) -> ExitNumbers {
 impl Comparison {
     /// A run.
     pub fn run(&mut self, handed: &Handed, rams: &mut Rams) -> Result<Given, String> {
+        rams.spare.clear();
         let library = library_run(handed, &mut rams.library);
         let second = second_run(self.rules, handed, &mut rams.second);
         if library != second || rams.library != rams.second {
@@ -222,7 +247,9 @@ impl Comparison {
 
     /// A step; the library's run with budget 1 must give the same.
     pub fn step(&mut self, handed: &Handed, rams: &mut Rams) -> Result<Given, String> {
-        rams.spare.clone_from(&rams.library);
+        if rams.spare.is_empty() {
+            rams.spare.clone_from(&rams.library);
+        }
         let stepped = library_step(handed, &mut rams.library);
         let ran = library_run(handed, &mut rams.spare);
         let second = second_run(self.rules, handed, &mut rams.second);
@@ -293,32 +320,30 @@ impl Comparison {
     }
 
     /// Storing a record in room of these bytes.
-    pub fn store(&mut self, record: &[u8], room: &[u8]) -> Result<Vec<u8>, String> {
+    pub fn store(&mut self, record: &[u8], room: &[u8]) -> Result<(Told, Vec<u8>), String> {
         let (mut library, mut second) = (room.to_vec(), room.to_vec());
-        let answered = raw::store(record, &mut library);
-        let expected = match record_in(record) {
-            _ if record.len() != STORED || room.len() != STORED => FORM_LENGTH,
-            None => FORM_RANGE,
-            Some(record) => code(store(self.rules, &record, &mut second)),
-        };
+        let (code, position) = raw::store(record, &mut library);
+        let answered = Told { code, position };
+        let expected = Told::of(store_bytes(self.rules, record, &mut second));
         if (answered, &library) != (expected, &second) {
             let sides = [(answered, &library), (expected, &second)];
             return Err(report::form("store", record, room, sides));
         }
         self.tally.call("store", expected);
-        Ok(second)
+        Ok((expected, second))
     }
 
     /// Reading a stored form back to room of these bytes.
-    pub fn load(&mut self, stored: &[u8], room: &[u8]) -> Result<Vec<u8>, String> {
+    pub fn load(&mut self, stored: &[u8], room: &[u8]) -> Result<(Told, Vec<u8>), String> {
         let (mut library, mut second) = (room.to_vec(), room.to_vec());
-        let answered = raw::load(stored, &mut library);
+        let (code, position) = raw::load(stored, &mut library);
+        let answered = Told { code, position };
         let expected = if room.len() == STORED {
             let (record, refusal) = read_back(self.rules, stored);
             if refusal.is_none() {
                 second = stored_bytes(&record);
             }
-            code(refusal)
+            Told::of(refusal)
         } else {
             FORM_LENGTH
         };
@@ -327,16 +352,16 @@ impl Comparison {
             return Err(report::form("load", stored, room, sides));
         }
         self.tally.call("load", expected);
-        Ok(second)
+        Ok((expected, second))
     }
 
     /// The fresh record in room of these bytes.
     pub fn fresh(&mut self, room: &[u8]) -> Same {
         let (mut library, mut second) = (room.to_vec(), room.to_vec());
-        let answered = raw::fresh(&mut library);
+        let answered = Told::plain(raw::fresh(&mut library));
         let expected = if room.len() == STORED {
             second = stored_bytes(&Record::fresh());
-            0
+            Told::ACCEPTED
         } else {
             FORM_LENGTH
         };
@@ -347,6 +372,7 @@ impl Comparison {
         self.tally.call("fresh", expected);
         Ok(())
     }
+
     /// What an exit asks of the host.
     pub fn exit(&mut self, low: u32, literal: u32) -> Same {
         let library = raw::exit(low, literal);

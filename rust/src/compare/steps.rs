@@ -54,7 +54,8 @@ fn random_step(
     }
     let mut record = stored_bytes(&case.record);
     if random.below(200) == 0 {
-        records::spoil(&mut random, &mut record);
+        let positions = random.pick(&records::SPOILS);
+        records::spoil(&mut random, &mut record, positions);
     }
     let handed = Handed {
         code: codes::any(&mut random, &case.page),

@@ -5,7 +5,7 @@ use std::fmt;
 
 use super::codes;
 use super::sets;
-use super::sides::{record_in, Given, Handed};
+use super::sides::{record_in, Given, Handed, Told, NO_RECORD};
 use crate::assemble as asm;
 use crate::names::{self, BAD_WORDS, NARROW, SERVICES, WIDE, WORDS};
 use crate::second::count::{is_fit_place, read_bundle, starts_with_terminator, Reading};
@@ -18,16 +18,51 @@ pub const LEAST_STEPS: u64 = 200_000;
 /// Pages that had to be compared.
 pub const LEAST_PAGES: u64 = 20_000;
 
-/// The calls, each with the numbers that it can answer.
-const ANSWERS: [(&str, &[u32]); 8] = [
-    ("count", &[0, 1, 18]),
-    ("reader", &[0, 1, 8, 18]),
-    ("validate", &[0, 3]),
-    ("fresh", &[0, 6]),
-    ("store", &[0, 6, 7]),
-    ("load", &[0, 6, 7]),
-    ("step", &[0, 1, 2, 3, 4, 5, 18, 255]),
-    ("run", &[0, 1, 2, 3, 4, 5, 18, 255]),
+/// The calls, each with what it can answer.
+const ANSWERS: [(&str, &[Told]); 8] = [
+    ("count", &[Told::ACCEPTED, Told::plain(1), Told::plain(18)]),
+    (
+        "reader",
+        &[
+            Told::ACCEPTED,
+            Told::plain(1),
+            Told::plain(8),
+            Told::plain(18),
+        ],
+    ),
+    ("validate", &[Told::ACCEPTED, Told::plain(3)]),
+    ("fresh", &[Told::ACCEPTED, Told::plain(6)]),
+    ("store", &OF_A_FORM),
+    ("load", &OF_A_FORM),
+    ("step", &OF_A_RUN),
+    ("run", &OF_A_RUN),
+];
+/// 7 at every field that can fail.
+const OF_A_FORM: [Told; 7] = [
+    Told::ACCEPTED,
+    Told::plain(6),
+    Told::at(7, 32),
+    Told::at(7, 36),
+    Told::at(7, 37),
+    Told::at(7, 41),
+    Told::at(7, 43),
+];
+/// 255 by a wrong length, and at every field that no record has.
+const OF_A_RUN: [Told; 14] = [
+    Told::ACCEPTED,
+    Told::plain(1),
+    Told::plain(2),
+    Told::plain(3),
+    Told::plain(5),
+    Told::plain(18),
+    Told::plain(41),
+    Told::plain(42),
+    Told::plain(43),
+    Told::plain(44),
+    Told::at(NO_RECORD, 0),
+    Told::at(NO_RECORD, 36),
+    Told::at(NO_RECORD, 37),
+    Told::at(NO_RECORD, 43),
 ];
 /// The kinds of stop.
 const STOPS: [&str; 6] = ["budget", "service", "literal", "fault", MARK, "refused"];
@@ -108,14 +143,14 @@ const SMALL_DID: [&str; 7] = [
 /// How often each class was met.
 #[derive(Default)]
 pub struct Tally {
-    calls: BTreeMap<(&'static str, u32), u64>,
+    calls: BTreeMap<(&'static str, Told), u64>,
     classes: BTreeMap<(&'static str, &'static str), u64>,
 }
 
 impl Tally {
     /// Counts a call by its answer.
-    pub fn call(&mut self, call: &'static str, code: u32) {
-        *self.calls.entry((call, code)).or_default() += 1;
+    pub fn call(&mut self, call: &'static str, told: Told) {
+        *self.calls.entry((call, told)).or_default() += 1;
     }
 
     /// Counts one of a class.
@@ -126,7 +161,7 @@ impl Tally {
     /// Counts a step or a run by its stop, its set and its profile.
     pub fn stop(&mut self, call: &'static str, handed: &Handed, given: &Given) {
         let (code, numbers) = (handed.code, &given.numbers);
-        self.call(call, numbers.code);
+        self.call(call, given.told());
         self.class_under(code, ["stops", SMALL_STOPS], STOPS[numbers.kind as usize]);
         if numbers.kind == 3 {
             let fault = FAULTS[numbers.value as usize - 1];
@@ -160,14 +195,14 @@ impl Tally {
 
     /// Counts a count by its answer, its set and its profile.
     pub fn count(&mut self, code: Code, answer: u32) {
-        self.call("count", answer);
+        self.call("count", Told::plain(answer));
         self.set("sets counted", code);
         self.profile("profiles counted", code);
     }
 
     /// Counts what the reader answered, and what stands in the bundle.
     pub fn reading(&mut self, code: Code, bundle: usize, (answer, kind, _): (u32, u32, u32)) {
-        self.call("reader", answer);
+        self.call("reader", Told::plain(answer));
         self.class("readings", READINGS[kind as usize]);
         self.profile("profiles read", code);
         self.syscalls_read(code, bundle, kind);
@@ -178,7 +213,7 @@ impl Tally {
 
     /// Counts a base that was validated.
     pub fn base(&mut self, (code, kind, _): (u32, u32, u32)) {
-        self.call("validate", code);
+        self.call("validate", Told::plain(code));
         self.class("bases", BASES[kind as usize]);
     }
 
@@ -192,32 +227,51 @@ impl Tally {
         self.classes.get(&(group, name)).copied().unwrap_or(0)
     }
 
-    /// Every class that had to be met and was not, and what never may be.
-    pub fn missing(&self) -> Vec<String> {
-        let answers = ANSWERS
-            .iter()
-            .flat_map(|&(call, codes)| codes.iter().map(move |&code| (call, code)))
-            .filter(|answer| !self.calls.contains_key(answer))
-            .map(|(call, code)| format!("{call} {code} was not met"));
-        let classes = required()
+    /// Every answer and class that had to be met and was not, and what was met and
+    /// never may be.
+    pub fn failures(&self) -> Vec<String> {
+        let mut failures = self.wrong_answers();
+        let unmet = required()
             .into_iter()
-            .filter(|&(group, name)| self.met(group, name) == 0)
-            .map(|(group, name)| format!("{group}: {name} was not met"));
-        let mut missing: Vec<String> = answers.chain(classes).collect();
+            .filter(|&(group, name)| self.met(group, name) == 0);
+        failures.extend(unmet.map(|(group, name)| format!("{group}: {name} was not met")));
         if self.met("stops", MARK) > 0 {
-            missing.push("the mark of an unlisted halfword was met".to_string());
+            failures.push("the mark of an unlisted halfword was met".to_string());
         }
         let never = lacking().map(|name| (SMALL_EXECUTED, name));
         let never = never.chain(FAULTS_OF_BASES.map(|name| (SMALL_FAULTS, name)));
         let met = never.filter(|&(group, name)| self.met(group, name) > 0);
-        missing.extend(met.map(|(group, name)| format!("{group}: {name} was met")));
+        failures.extend(met.map(|(group, name)| format!("{group}: {name} was met")));
         for (name, least) in [("random steps", LEAST_STEPS), ("pages", LEAST_PAGES)] {
             let met = self.met("amounts", name);
             if met < least {
-                missing.push(format!("only {met} {name}"));
+                failures.push(format!("only {met} {name}"));
             }
         }
-        missing
+        failures
+    }
+
+    /// The answers that were not met, and those that the call can't give.
+    fn wrong_answers(&self) -> Vec<String> {
+        let possible: BTreeSet<(&str, Told)> = ANSWERS
+            .iter()
+            .flat_map(|&(call, all)| all.iter().map(move |&told| (call, told)))
+            .collect();
+        let met: BTreeSet<(&str, Told)> = self.calls.keys().copied().collect();
+        let line = |answer: &(&str, Told)| {
+            let not = if met.contains(answer) { "" } else { "not " };
+            format!("{} {} was {not}met", answer.0, shown(answer.1))
+        };
+        possible.symmetric_difference(&met).map(line).collect()
+    }
+}
+
+/// A code with its position: 7 and 255 carry one, and no other code should.
+fn shown(told: Told) -> String {
+    let Told { code, position } = told;
+    match (code, position) {
+        (7 | NO_RECORD, _) | (_, 1..) => format!("{code}-at-{position}"),
+        _ => code.to_string(),
     }
 }
 
@@ -425,20 +479,19 @@ fn required_of_profiles() -> impl Iterator<Item = (&'static str, &'static str)> 
 impl Tally {
     /// The answers of one call.
     fn answers(&self, call: &str) -> String {
-        let met = self.calls.iter().filter(|((name, _), _)| *name == call);
-        let shown = met.map(|((_, code), met)| match code {
-            0 => format!("accepted {met}"),
-            255 => format!("no-record {met}"),
-            number => format!("refused-{number} {met}"),
+        let own = self.calls.iter().filter(|((name, _), _)| *name == call);
+        let numbers = own.map(|(&(_, told), met)| match told {
+            Told::ACCEPTED => format!("accepted {met}"),
+            _ => format!("refused-{} {met}", shown(told)),
         });
-        shown.collect::<Vec<_>>().join(", ")
+        numbers.collect::<Vec<_>>().join(", ")
     }
 
     /// The classes of one group.
     fn group(&self, group: &str) -> String {
-        let met = self.classes.iter().filter(|((name, _), _)| *name == group);
-        let shown = met.map(|((_, name), met)| format!("{name} {met}"));
-        shown.collect::<Vec<_>>().join(", ")
+        let own = self.classes.iter().filter(|((name, _), _)| *name == group);
+        let numbers = own.map(|((_, name), met)| format!("{name} {met}"));
+        numbers.collect::<Vec<_>>().join(", ")
     }
 }
 

@@ -1,11 +1,13 @@
-//! Steps and runs, with their refusals, 18 and 1 to 5, faults and stops.
+//! Steps and runs, with their refusals, 18, 1 to 3, 41 to 44 and 5, and the
+//! library's own 255, faults and stops.
 
 use super::arith::{add_with_carry, multiply, sdiv, shift_c, sign_extend, udiv, Shift};
 use super::count::{branch_target, is_fit_place};
 use super::decode::{opens_wide, DataOp, Instruction, Operand, Register};
 use super::memory::{self, Fault};
 use super::page::{Code, Page};
-use super::record::{Base, Record};
+use super::record::{given, stored_bytes, Base, Record};
+use super::refusal::Refusal;
 use super::rules::Rules;
 use super::services::{literal_service, Action, Service};
 
@@ -18,11 +20,21 @@ pub enum Stop {
     Fault(Fault),
     /// The whole budget is spent.
     Budget,
-    /// The call was refused, by this number.
-    Refused(u8),
+    /// The call was refused.
+    Refused(Refusal),
     /// A halfword that matches no listed encoding of the profile: never met from
     /// a fit place.
     Unlisted,
+}
+
+impl Stop {
+    /// Why the call was refused, if it was.
+    pub fn refusal(self) -> Option<Refusal> {
+        match self {
+            Stop::Refused(refusal) => Some(refusal),
+            _ => None,
+        }
+    }
 }
 
 /// The answer of a step or a run.
@@ -56,7 +68,7 @@ pub fn run_by(
         Err(number) => Answer {
             record: record.clone(),
             steps: 0,
-            stop: Stop::Refused(number),
+            stop: Stop::Refused(Refusal::plain(number)),
         },
         Ok(page) => Machine {
             page,
@@ -69,14 +81,33 @@ pub fn run_by(
     }
 }
 
-/// The refusals of a step or a run, in order.
-fn accept<'a>(
+/// A run on the bytes of a record, as the library takes and leaves them: the stop
+/// and the steps. If they hold no record, that is refused after what is wrong with
+/// the areas lent.
+pub fn run_bytes(
     rules: Rules,
-    code: Code<'a>,
-    ram: &[u8],
+    code: Code,
+    ram: &mut [u8],
     external: &[u8],
-    record: &Record,
-) -> Result<Page<'a>, u8> {
+    bytes: &mut [u8],
+    budget: u32,
+) -> (Stop, u32) {
+    match given(rules, bytes) {
+        Ok(record) => {
+            let answer = run_by(rules, code, ram, external, &record, budget);
+            bytes.copy_from_slice(&stored_bytes(&answer.record));
+            (answer.stop, answer.steps)
+        }
+        Err(no_record) => {
+            let lent = areas(rules, code, ram, external);
+            let refusal = lent.err().map_or(no_record, Refusal::plain);
+            (Stop::Refused(refusal), 0)
+        }
+    }
+}
+
+/// The refusals of the areas that a step or a run is lent, in order.
+fn areas<'a>(rules: Rules, code: Code<'a>, ram: &[u8], external: &[u8]) -> Result<Page<'a>, u8> {
     let page = (rules.run)(code)?;
     if ram.len() != memory::RAM_SIZE {
         return Err(2);
@@ -84,13 +115,23 @@ fn accept<'a>(
     if !memory::is_external_length(external.len()) {
         return Err(3);
     }
-    if !record.is_fit(external.len()) {
-        return Err(4);
-    }
-    if !is_fit_place(rules, page, usize::from(record.place)) {
-        return Err(5);
-    }
     Ok(page)
+}
+
+/// All refusals of a step or a run, in order.
+fn accept<'a>(
+    rules: Rules,
+    code: Code<'a>,
+    ram: &[u8],
+    external: &[u8],
+    record: &Record,
+) -> Result<Page<'a>, u8> {
+    let page = areas(rules, code, ram, external)?;
+    let place_is_fit = is_fit_place(rules, page, usize::from(record.place));
+    match (rules.unfit)(record, external.len(), place_is_fit) {
+        Some(number) => Err(number),
+        None => Ok(page),
+    }
 }
 
 /// What an instruction leads to when it does not fault.

@@ -1,5 +1,5 @@
-//! The second program: decoder, profiles, arithmetic, services, count, machine,
-//! text.
+//! The second program: decoder, profiles, arithmetic, services, count, records,
+//! machine, text.
 
 pub mod arith;
 pub mod count;
@@ -10,6 +10,7 @@ pub mod memory;
 pub mod page;
 pub mod profile;
 pub mod record;
+pub mod refusal;
 pub mod rules;
 pub mod services;
 pub mod text;

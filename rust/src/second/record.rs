@@ -1,6 +1,8 @@
-//! The record, the tests of a fit record, and its stored form of 44 bytes.
+//! The record, the tests of a fit record, and its stored form of 44 bytes, with
+//! 02's refusals that say which field is wrong.
 
 use super::arith::Flags;
+use super::refusal::Refusal;
 use super::rules::Rules;
 
 /// First address of user RAM, and lowest SP.
@@ -15,6 +17,13 @@ pub const MOST_EXTERNAL: u32 = 1 << 24;
 pub const LAST_PLACE: u16 = 127;
 /// Size of the stored form.
 pub const STORED: usize = 44;
+
+/// Where the fields that can fail begin in the stored form, in its order.
+pub const AT_SP: u8 = 32;
+pub const AT_KIND: u8 = 36;
+pub const AT_OFFSET: u8 = 37;
+pub const AT_PLACE: u8 = 41;
+pub const AT_FLAGS: u8 = 43;
 
 /// The base that r8 and r9 stand for.
 #[derive(Clone, Copy, Debug, Default, PartialEq, Eq)]
@@ -46,33 +55,150 @@ impl Record {
             base: Base::None,
         }
     }
+}
 
-    /// 01's "Fit record", with so many bytes of external data.
-    pub fn is_fit(&self, external: usize) -> bool {
-        let base_fits = match self.base {
-            Base::None => true,
-            Base::Ram(offset) => offset < RAM_OFFSETS,
-            Base::External(offset) => (offset as usize) < external,
-        };
-        (RAM_START..=RAM_END).contains(&self.sp) && self.sp.is_multiple_of(4) && base_fits
+/// What a step and a run refuse a record by, with so many bytes of external
+/// data: 41 to 44 by 01's "Fit record", then 5.
+pub fn unfit(record: &Record, external: usize, place_is_fit: bool) -> Option<u8> {
+    if !(RAM_START..=RAM_END).contains(&record.sp) {
+        return Some(41);
     }
-
-    /// The range tests of the stored form.
-    pub fn is_in_range(&self) -> bool {
-        self.is_fit(MOST_EXTERNAL as usize) && self.place <= LAST_PLACE
+    if !record.sp.is_multiple_of(4) {
+        return Some(42);
+    }
+    match record.base {
+        Base::Ram(offset) if offset >= RAM_OFFSETS => Some(43),
+        Base::External(offset) if offset as usize >= external => Some(44),
+        _ => (!place_is_fit).then_some(5),
     }
 }
 
-/// Stores the record in the room lent; the refusal, if any, is 6 or 7.
-pub fn store(rules: Rules, record: &Record, room: &mut [u8]) -> Option<u8> {
+/// The fields of the stored form, in its order and with any values.
+#[derive(Clone, Copy, Debug, PartialEq, Eq)]
+pub struct Fields {
+    pub registers: [u32; 8],
+    pub sp: u32,
+    pub kind: u8,
+    pub offset: u32,
+    pub place: u16,
+    pub flags: u8,
+}
+
+impl Fields {
+    /// The fields of 44 bytes; nothing of another length.
+    pub fn read(bytes: &[u8]) -> Option<Fields> {
+        if bytes.len() != STORED {
+            return None;
+        }
+        let byte = |at: u8| bytes[usize::from(at)];
+        let word = |at: u8| u32::from_le_bytes([0, 1, 2, 3].map(|next| byte(at + next)));
+        Some(Fields {
+            registers: [0, 4, 8, 12, 16, 20, 24, 28].map(word),
+            sp: word(AT_SP),
+            kind: byte(AT_KIND),
+            offset: word(AT_OFFSET),
+            place: u16::from_le_bytes([byte(AT_PLACE), byte(AT_PLACE + 1)]),
+            flags: byte(AT_FLAGS),
+        })
+    }
+
+    /// The positions of the fields out of range, first to last.
+    pub fn out_of_range(&self) -> Vec<u8> {
+        let sp_fits = (RAM_START..=RAM_END).contains(&self.sp) && self.sp.is_multiple_of(4);
+        let offset_fits = match self.kind {
+            0 => self.offset == 0,
+            1 => self.offset < RAM_OFFSETS,
+            2 => self.offset < MOST_EXTERNAL,
+            _ => true,
+        };
+        let failing = [
+            (AT_SP, !sp_fits),
+            (AT_KIND, self.kind > 2),
+            (AT_OFFSET, !offset_fits),
+            (AT_PLACE, self.place > LAST_PLACE),
+            (AT_FLAGS, self.flags > 15),
+        ];
+        positions(&failing)
+    }
+
+    /// The positions of the fields that no record has, first to last.
+    pub fn of_no_record(&self) -> Vec<u8> {
+        let failing = [
+            (AT_KIND, self.kind > 2),
+            (AT_OFFSET, self.kind == 0 && self.offset != 0),
+            (AT_FLAGS, self.flags > 15),
+        ];
+        positions(&failing)
+    }
+
+    /// The record with these fields, which must be a record's.
+    pub fn record(&self) -> Record {
+        let base = match self.kind {
+            1 => Base::Ram(self.offset),
+            2 => Base::External(self.offset),
+            _ => Base::None,
+        };
+        Record {
+            registers: self.registers,
+            sp: self.sp,
+            flags: Flags {
+                n: self.flags & 8 != 0,
+                z: self.flags & 4 != 0,
+                c: self.flags & 2 != 0,
+                v: self.flags & 1 != 0,
+            },
+            place: self.place,
+            base,
+        }
+    }
+}
+
+/// The positions whose fields fail.
+fn positions(fields: &[(u8, bool)]) -> Vec<u8> {
+    let failing = fields.iter().filter(|(_, fails)| *fails);
+    failing.map(|&(position, _)| position).collect()
+}
+
+/// The record that bytes hold, or the library's refusal 255: another length is
+/// told by position 0.
+pub fn given(rules: Rules, bytes: &[u8]) -> Result<Record, Refusal> {
+    let fields = Fields::read(bytes).ok_or(Refusal::at(255, 0))?;
+    match (rules.no_record)(&fields) {
+        Some(position) => Err(Refusal::at(255, position)),
+        None => Ok(fields.record()),
+    }
+}
+
+/// The record of a stored form, or its refusal, 6 or 7.
+fn stored(rules: Rules, bytes: &[u8]) -> Result<Record, Refusal> {
+    let fields = Fields::read(bytes).ok_or(Refusal::plain(6))?;
+    match (rules.out_of_range)(&fields) {
+        Some(position) => Err(Refusal::at(7, position)),
+        None => Ok(fields.record()),
+    }
+}
+
+/// Stores the record that bytes hold in the room lent; the refusal, if any, is 6 or
+/// 7, also where they hold none.
+pub fn store_bytes(rules: Rules, bytes: &[u8], room: &mut [u8]) -> Option<Refusal> {
     if room.len() != STORED {
-        return Some(6);
+        return Some(Refusal::plain(6));
     }
-    if !(rules.in_range)(record) {
-        return Some(7);
+    match stored(rules, bytes) {
+        Err(refusal) => Some(refusal),
+        Ok(record) => {
+            room.copy_from_slice(&stored_bytes(&record));
+            None
+        }
     }
-    room.copy_from_slice(&stored_bytes(record));
-    None
+}
+
+/// Reads a stored form back; refused (6 or 7), the record is the fresh one.
+pub fn read_back(rules: Rules, bytes: &[u8]) -> (Record, Option<Refusal>) {
+    match stored(rules, bytes) {
+        Err(refusal) => (Record::fresh(), Some(refusal)),
+        Ok(record) => (record, None),
+    }
 }
 
 /// The bytes of the stored form, in 01's order, of any record.
@@ -94,46 +220,4 @@ pub fn stored_bytes(record: &Record) -> Vec<u8> {
     bytes.extend(record.place.to_le_bytes());
     bytes.push(flags);
     bytes
-}
-
-/// Reads a stored form back; refused (6 or 7), the record is the fresh one.
-pub fn read_back(rules: Rules, bytes: &[u8]) -> (Record, Option<u8>) {
-    if bytes.len() != STORED {
-        return (Record::fresh(), Some(6));
-    }
-    match parse(bytes) {
-        Some(record) if (rules.in_range)(&record) => (record, None),
-        _ => (Record::fresh(), Some(7)),
-    }
-}
-
-/// The record of 44 bytes, before its range tests.
-pub fn parse(bytes: &[u8]) -> Option<Record> {
-    let word = |at: usize| (0..4).fold(0, |sum, i| sum | u32::from(bytes[at + i]) << (8 * i));
-    let base = match (bytes[36], word(37)) {
-        (0, 0) => Base::None,
-        (1, offset) => Base::Ram(offset),
-        (2, offset) => Base::External(offset),
-        _ => return None,
-    };
-    let flags = bytes[43];
-    if flags > 15 {
-        return None;
-    }
-    let mut registers = [0; 8];
-    for (number, register) in registers.iter_mut().enumerate() {
-        *register = word(4 * number);
-    }
-    Some(Record {
-        registers,
-        sp: word(32),
-        flags: Flags {
-            n: flags & 8 != 0,
-            z: flags & 4 != 0,
-            c: flags & 2 != 0,
-            v: flags & 1 != 0,
-        },
-        place: u16::from(bytes[41]) | u16::from(bytes[42]) << 8,
-        base,
-    })
 }

@@ -6,7 +6,7 @@ use super::count::{count, read_bundle, Reading};
 use super::exits::{exit_of, Exit};
 use super::memory::validate;
 use super::page::{Code, NeverReturn, Page};
-use super::record::{Base, Record};
+use super::record::{unfit, Base, Fields, Record};
 
 /// One rule of each kind.
 #[derive(Clone, Copy)]
@@ -26,14 +26,19 @@ pub struct Rules {
     pub stays: fn(Exit, NeverReturn) -> bool,
     /// validate(v), with so many bytes of external data.
     pub validate: fn(u32, usize) -> Base,
-    /// The range tests of the stored form.
-    pub in_range: fn(&Record) -> bool,
+    /// What a step or a run refuses a record by: so much external data, and
+    /// whether its place is fit.
+    pub unfit: fn(&Record, usize, bool) -> Option<u8>,
+    /// The position that 7 carries, if a field of the stored form fails.
+    pub out_of_range: fn(&Fields) -> Option<u8>,
+    /// The position that 255 carries, if the fields are no record's.
+    pub no_record: fn(&Fields) -> Option<u8>,
     /// The exit of a low byte and its literal, if it is one.
     pub exit: fn(u32, u32) -> Option<Exit>,
 }
 
 impl Rules {
-    /// The right ones: 01's and the manual's.
+    /// The right ones: the papers', the manual's and, for 255, the library's.
     pub const RIGHT: Rules = Rules {
         condition: condition_passed,
         reading: read_bundle,
@@ -42,7 +47,9 @@ impl Rules {
         run: |code| Page::new(code),
         stays: Exit::is_terminator,
         validate,
-        in_range: Record::is_in_range,
+        unfit,
+        out_of_range: |fields| fields.out_of_range().first().copied(),
+        no_record: |fields| fields.of_no_record().first().copied(),
         exit: exit_of,
     };
 }

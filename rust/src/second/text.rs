@@ -7,6 +7,7 @@ use super::machine::{run_by, Answer, Stop};
 use super::memory::RAM_SIZE;
 use super::page::{Code, Page};
 use super::record::Record;
+use super::refusal::Refusal;
 use super::rules::Rules;
 
 /// The runner's budget.
@@ -16,7 +17,7 @@ pub const BUDGET: u32 = 100_000;
 pub fn lister(rules: Rules, bytes: &[u8]) -> String {
     let page = match (rules.counted)(Code::plain(bytes)) {
         Ok(page) => page,
-        Err(number) => return refused(number),
+        Err(number) => return refused(Refusal::plain(number)),
     };
     let count = (rules.count)(page);
     let mut text = format!("bundles {} count {count}\n", page.bundles());
@@ -54,7 +55,7 @@ pub fn runner(bytes: &[u8]) -> String {
 /// The five lines of an answer, or the one of a refusal.
 pub fn answer(answer: &Answer) -> String {
     let first = match answer.stop {
-        Stop::Refused(number) => return refused(number),
+        Stop::Refused(refusal) => return refused(refusal),
         Stop::Service { low, literal: None } => format!("service {low:02X}"),
         Stop::Service {
             low,
@@ -82,7 +83,11 @@ fn flags(flags: Flags) -> String {
         .collect()
 }
 
-/// The line of a refusal.
-fn refused(number: u8) -> String {
-    format!("refused {number}\n")
+/// The line of a refusal: its number, then a space and what it carries.
+pub fn refused(refusal: Refusal) -> String {
+    let carried = match refusal.position {
+        None => String::new(),
+        Some(position) => format!(" {position}"),
+    };
+    format!("refused {}{carried}\n", refusal.number)
 }
