@@ -1,6 +1,5 @@
 use borrow.Author.Tests.{not-true, not-false}
 use mathlib.Core.Path.{sym, _∙_}
-use borrow.Author.Needs.{needs}
 use Rattle.admission.proofs.of_place.Statement.{statement}
 use Rattle.admission.proofs.of_place.Tie as tie
 
@@ -11,4 +10,4 @@ returns-2 : tie.Need-returns-2
 returns-2 c = rw (sym (c .before .is-fit .ensures) ∙ not-false _ (c .if1 .left))
 
 pub of-place-spec : {M : Type 1} → statement M
-of-place-spec = tie.close (tie.spec (λ c. search needs) returns returns-2)
+of-place-spec = tie.close (tie.spec (λ c κs. tt) returns returns-2)

@@ -25,6 +25,6 @@ returns-6 : tie.Need-returns-6
 returns-6 c = rw (range-tests (c .before .before .before .before .before .before .before .args .t1) (omega arith), sym (c .before .before .before .before .before .before .sp-fits .ensures) ∙ not-false _ (c .before .before .before .before .before .if1 .left), le-leb _ _ (c .before .before .before .before .if2 .left), sym (c .before .before .before .offset-in-range .ensures) ∙ not-false _ (c .before .before .if3 .left), le-leb _ _ (c .before .if4 .left), le-leb _ _ (c .if5 .left))
 
 pub in-range-spec : {M : Type 1} → statement M
-in-range-spec = tie.close (tie.spec (λ c. search needs) (λ c. search needs) returns
-    (λ c. search needs) returns-2 (λ c. search needs) (λ c. search needs) (λ c. search needs)
-    returns-3 (λ c. search needs) returns-4 (λ c. search needs) returns-5 returns-6)
+in-range-spec = tie.close (tie.spec (λ c. search needs) (λ c κs. tt) returns (λ c. search needs)
+    returns-2 (λ c. search needs) (λ c. search needs) (λ c κs. tt) returns-3 (λ c. search needs)
+    returns-4 (λ c. search needs) returns-5 returns-6)

@@ -33,5 +33,5 @@ returns-3 c =
     (e, c .before .before .write .ensures .1 ∙ written ∙ room-after (s .r) room accepted e)
 
 pub store-spec : {M : Type 1} → statement M
-store-spec = tie.close (tie.spec returns (λ c. search needs) (λ c. search needs) (λ c. search needs)
-    (λ c. search needs) (λ c. search needs) returns-2 (λ c. search needs) returns-3)
+store-spec = tie.close (tie.spec returns (λ c κs. tt) (λ c κs. tt) (λ c. search needs)
+    (λ c. search needs) (λ c κs. tt) returns-2 (λ c. search needs) returns-3)

@@ -4,7 +4,6 @@ use borrow.Author.Tests.{eq-eqb, ne-eqb}
 use Prim.Native.Nat.{ℕ}
 use mathlib.Core.List.{List}
 use mathlib.Core.Path.{ap, _∙_}
-use borrow.Author.Needs.{needs}
 use Rattle.layout.proofs.holds_record.Statement.{statement}
 use Rattle.layout.proofs.holds_record.Tie as tie
 
@@ -15,4 +14,4 @@ returns-2 : tie.Need-returns-2
 returns-2 c = rw (eq-eqb _ _ (c .before .before .if1 .left)) (c .values-stand .ensures ∙ ap (λ (values : List ℕ). decision (standRules values)) (c .before .values-in .ensures))
 
 pub holds-record-spec : {M : Type 1} → statement M
-holds-record-spec = tie.close (tie.spec returns (λ c. search needs) (λ c. search needs) returns-2)
+holds-record-spec = tie.close (tie.spec returns (λ c κs. tt) (λ c κs. tt) returns-2)

@@ -20,4 +20,4 @@ returns-4 c = rw (stand-tests (c .before .before .before .before .args .t1) (ome
 
 pub values-stand-spec : {M : Type 1} → statement M
 values-stand-spec = tie.close (tie.spec (λ c. search needs) returns (λ c. search needs)
-    (λ c. search needs) (λ c. search needs) returns-2 (λ c. search needs) returns-3 returns-4)
+    (λ c. search needs) (λ c κs. tt) returns-2 (λ c. search needs) returns-3 returns-4)

@@ -32,5 +32,5 @@ returns-3 c =
     (e, room-by (s .bytes .now) (s .room .now) _ e)
 
 pub formed-spec : {M : Type 1} → statement M
-formed-spec = tie.close (tie.spec returns (λ c. search needs) (λ c. search needs)
-    (λ c. search needs) (λ c. search needs) (λ c. search needs) returns-2 returns-3)
+formed-spec = tie.close (tie.spec returns (λ c κs. tt) (λ c. search needs) (λ c κs. tt)
+    (λ c. search needs) (λ c. search needs) returns-2 returns-3)

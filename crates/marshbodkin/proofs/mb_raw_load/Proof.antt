@@ -10,5 +10,5 @@ returns c =
     (c .code-of .ensures ∙ ap codeOf (formed .0), c .before .position-of .ensures ∙ ap positionOf (formed .0), formed .1)
 
 pub mb-raw-load-spec : {M : Type 1} → statement M
-mb-raw-load-spec = tie.close (tie.spec (λ c. search needs) (λ c. search needs) (λ c. search needs)
-    (λ c. search needs) returns)
+mb-raw-load-spec = tie.close (tie.spec (λ c κs. tt) (λ c κs. tt) (λ c κs. tt) (λ c. search needs)
+    returns)

@@ -22,8 +22,7 @@ returns-2 c =
     (crosses (s .bytes .now) (held .result) (held .ensures) setting (s .budget) (s .ram .now) (c .before .before .before .before .before .before .before .before .before .before .before .before .before .before .before .record-in .result) (c .before .before .before .before .before .before .before .before .before .before .before .before .before .run .result) (c .before .before .before .before .before .numbers-of .result) _ _ (c .before .before .before .before .before .before .before .before .before .before .before .before .before .before .before .before .before .enum-told2 .given .1) (c .before .before .before .before .before .before .before .before .before .before .before .before .before .before .before .record-in .ensures) (c .before .before .before .before .before .before .before .before .before .before .before .before .before .run .ensures) (c .before .before .before .before .before .numbers-of .ensures) (c .before .before .before .before .before .before .before .before .write .ensures .1))
 
 pub mb-raw-run-spec : {M : Type 1} → statement M
-mb-raw-run-spec = tie.close (tie.spec (λ c. search needs) (λ c. search needs) (λ c. search needs)
-    (λ c. search needs) (λ c. search needs) (λ c. search needs) (λ c. search needs)
-    (λ c. search needs) returns (λ c. search needs) (λ c. search needs) (λ c. search needs)
-    (λ c. search needs) (λ c. search needs) (λ c. search needs) (λ c. search needs)
+mb-raw-run-spec = tie.close (tie.spec (λ c κs. tt) (λ c. search needs) (λ c κs. tt) (λ c κs. tt)
+    (λ c κs. tt) (λ c κs. tt) (λ c. search needs) (λ c. search needs) returns (λ c. search needs)
+    (λ c κs. tt) (λ c κs. tt) (λ c κs. tt) (λ c κs. tt) (λ c κs. tt) (λ c. search needs)
     (λ c. search needs) returns-2)

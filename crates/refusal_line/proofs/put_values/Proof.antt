@@ -16,6 +16,6 @@ returns-2 c =
     rw (told .carried .given .1, append-nil) (c .before .before .before .before .before .before .push .ensures then c .before .before .put-decimal .ensures)
 
 pub put-values-spec : {M : Type 1} → statement M
-put-values-spec = tie.close (tie.spec (λ c. search needs) (λ c. search needs) (λ c. search needs)
-    (λ c. search needs) (λ c. search needs) (λ c. search needs) (λ c. search needs) returns
-    (λ c. search needs) returns-2)
+put-values-spec = tie.close (tie.spec (λ c. search needs) (λ c. search needs) (λ c κs. tt)
+    (λ c. search needs) (λ c κs. tt) (λ c κs. tt) (λ c. search needs) returns (λ c. search needs)
+    returns-2)

@@ -16,6 +16,5 @@ returns-5 : tie.Need-returns-5
 returns-5 c = rw (c .before .before .b2 .given .1, le-ltb _ _ (c .if2 .left))
 
 pub base-verdict-spec : {M : Type 1} → statement M
-base-verdict-spec = tie.close (tie.spec (λ c. search needs) (λ c. search needs)
-    (λ c. search needs) (λ c. search needs) (λ c. search needs) returns-2 returns-3 returns-4
-    returns-5)
+base-verdict-spec = tie.close (tie.spec (λ c. search needs) (λ c. search needs) (λ c. search needs)
+    (λ c. search needs) (λ c. search needs) returns-2 returns-3 returns-4 returns-5)

@@ -1,6 +1,5 @@
 use Rattle.state.specs.FitRecord.{spRules, baseRules}
 use Rattle.refusal.proofs.Theorems.{joined}
-use borrow.Author.Needs.{needs}
 use Rattle.state.proofs.fitness.Statement.{statement}
 use Rattle.state.proofs.fitness.Tie as tie
 
@@ -8,5 +7,4 @@ returns : tie.Need-returns
 returns c = let s = c .before .before .before .args in joined (spRules (s .r .sp)) (baseRules (s .r .base) (s .external)) _ _ _ (c .first-of .ensures) (c .before .before .sp-verdict .ensures) (c .before .base-verdict .ensures)
 
 pub fitness-spec : {M : Type 1} → statement M
-fitness-spec = tie.close (tie.spec (λ c. search needs) (λ c. search needs) (λ c. search needs)
-    returns)
+fitness-spec = tie.close (tie.spec (λ c κs. tt) (λ c κs. tt) (λ c κs. tt) returns)

@@ -13,5 +13,5 @@ returns-2 : tie.Need-returns-2
 returns-2 c = sym (ap (λ (v : Verdict). isAccepted (decisionOf v)) (c .enum-told2 .given .1)) ∙ sp-fits-by (c .before .before .before .args .sp) _ (c .before .before .sp-verdict .ensures)
 
 pub sp-fits-spec : {M : Type 1} → statement M
-sp-fits-spec = tie.close (tie.spec (λ c. search needs) (λ c. search needs) (λ c. search needs)
-    returns returns-2)
+sp-fits-spec = tie.close (tie.spec (λ c κs. tt) (λ c. search needs) (λ c. search needs) returns
+    returns-2)
