@@ -3,14 +3,17 @@ use Prim.Native.Nat.{ℕ}
 use mathlib.Core.Path.{_≡_, sym, ap, _∙_}
 use mathlib.Core.List.{List, [], _∷_}
 use lib.Dec.{eqb}
+use lib.ListN.{length}
 use borrow.Author.Tests.{eqb-true, eq-eqb, ne-eqb}
 use Rattle.refusal.specs.Refusals.{Decision, accepted, refused, Rule, decision, whenAccepted, decisionOf}
 use Rattle.refusal.specs.declared.Verdict.{Verdict}
+use Rattle.refusal.specs.declared.Verdict.the-variants.{Accepted}
 use Rattle.refusal.proofs.Theorems.{passes}
 use Rattle.state.specs.Record.{freshRecord}
 use Rattle.state.specs.declared.Record.{Record}
-use Rattle.layout.specs.StoredForm.{rangeRules, recordBytes, recordIn}
-use Rattle.form.specs.Storing.{lengthRule, formRules, storeDecision, roomAfter, loadRecord}
+use Rattle.layout.specs.StoredForm.{rangeRules, recordBytes, recordIn, roomWith}
+use Rattle.form.specs.Storing.{lengthRule, formRules, storeDecision, roomAfter, LoadAnswer, loadRecord, seenReadBack}
+use Rattle.form.specs.declared.ReadBack.{ReadBack}
 use Rattle.form.proofs.Ranges.{InRange}
 
 -- a table that begins with the length
@@ -44,3 +47,22 @@ pub loaded : (bytes : List ℕ) (d : Decision) (s : Record) → d ≡ loadRecord
 loaded bytes d s e same =
     ap (λ (w : Record). record { decision = d; loaded = w }) same
     ∙ ap (λ (w : Decision). record { decision = w; loaded = whenAccepted w (recordIn bytes) freshRecord }) e
+
+-- ---- a record that was read, on its way to room of 44 bytes
+
+module _ (rules : List Rule) (s : Record) (room : List ℕ) where
+  -- the decision says what becomes of the room
+  pub room-by : (d : Decision) → d ≡ decision (lengthRule (length room) ∷ rules)
+      → whenAccepted d (recordBytes s) room ≡ whenAccepted (decision (lengthRule (length room) ∷ rules)) (recordBytes s) room
+  room-by d e = ap (λ (w : Decision). whenAccepted w (recordBytes s) room) e
+
+  module _ (m : length room ≡ 44) (a : ReadBack) (e : seenReadBack a ≡ record { decision = decision rules; loaded = whenAccepted (decision rules) s freshRecord }) where
+    pub told : (v : Verdict) → a .verdict ≡ v → decisionOf v ≡ decision (lengthRule (length room) ∷ rules)
+    told v t = ap decisionOf (sym t) ∙ ap (λ (x : LoadAnswer). x .decision) e ∙ by-rest (length room) rules m
+
+    pub put : a .verdict ≡ Accepted → roomWith (a .loaded) room ≡ whenAccepted (decision (lengthRule (length room) ∷ rules)) (recordBytes s) room
+    put t =
+        let d = told Accepted t in
+        let same : a .loaded ≡ s = ap (λ (x : LoadAnswer). x .loaded) e ∙ ap (λ (w : Decision). whenAccepted w s freshRecord) (by-rest (length room) rules m ∙ sym d) in
+        let written : roomWith (a .loaded) room ≡ recordBytes (a .loaded) = rw (eq-eqb (length room) 44 m) in
+        written ∙ ap recordBytes same ∙ room-by accepted d

@@ -8,7 +8,7 @@ use Rattle.state.specs.Record.{freshRecord}
 use Rattle.state.specs.declared.Record.{Record}
 use Rattle.layout.specs.StoredForm.{storedForm, decode, rangeRules, valuesOf, recordBytes, recordIn, Held}
 use Rattle.layout.proofs.Theorems.{values-kept, record-kept, record-length, same-values, bytes-kept}
-use Rattle.form.specs.Storing.{storeDecision, roomAfter, loadRecord}
+use Rattle.form.specs.Storing.{loadRules, storeDecision, roomAfter, loadRecord}
 use Rattle.form.proofs.Ranges.{InRange, ranged}
 use Rattle.form.proofs.Decisions.{by-rest, passed, room-after, loaded}
 
@@ -21,16 +21,20 @@ stored-loads r room h e =
     ap loadRecord (sym (room-after r room accepted (sym e)))
     ∙ sym (loaded bytes accepted r (sym t ∙ by-rest (length bytes) (rangeRules values) (record-length r h)) (sym (record-kept r h)))
 
--- what was read is stored back, to any room
+-- what was read is in range
+pub loaded-range : (bytes : List ℕ) → decision (loadRules bytes) ≡ accepted → InRange (valuesOf (recordIn bytes))
+loaded-range bytes e =
+    let p = passed (length bytes) (decode storedForm bytes) e in
+    ap (λ (vs : List ℕ). decision (rangeRules vs)) (same-values bytes (ranged (decode storedForm bytes) refl (p .1))) ∙ p .1
+
+-- and is stored back, to any room
 pub loaded-stores : (bytes room : List ℕ) → ((k : ℕ) → getD bytes k 0 < 256) → length room ≡ 44 → loadRecord bytes .decision ≡ accepted
     → (storeDecision (loadRecord bytes .loaded) room ≡ accepted) × (roomAfter (loadRecord bytes .loaded) room ≡ bytes)
 loaded-stores bytes room h l e =
     let values = decode storedForm bytes in
     let p = passed (length bytes) values e in
-    let q = ranged values refl (p .1) in
     let r = loadRecord bytes .loaded in
     let same : r ≡ recordIn bytes = ap (λ (d : Decision). whenAccepted d (recordIn bytes) freshRecord) e in
-    let t : InRange (valuesOf r) =
-    ap (λ (s : Record). decision (rangeRules (valuesOf s))) same ∙ ap (λ (vs : List ℕ). decision (rangeRules vs)) (same-values bytes q) ∙ p .1 in
+    let t : InRange (valuesOf r) = ap (λ (s : Record). decision (rangeRules (valuesOf s))) same ∙ loaded-range bytes e in
     let v = sym t ∙ by-rest (length room) (rangeRules (valuesOf r)) l in
-    (sym v, sym (room-after r room accepted v) ∙ ap recordBytes same ∙ bytes-kept bytes q (p .0) h)
+    (sym v, sym (room-after r room accepted v) ∙ ap recordBytes same ∙ bytes-kept bytes (ranged values refl (p .1)) (p .0) h)

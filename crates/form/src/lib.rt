@@ -27,7 +27,7 @@ fn offset_in_range(kind: u32, offset: u32) -> bool
 }
 
 // The values are in range, or where the first field starts that isn't. r0 to r7 have no test.
-fn in_range(values: [u32; 13]) -> Verdict
+pub fn in_range(values: [u32; 13]) -> Verdict
     ensures { λ v. ⌜ decisionOf v ≡ decision (rangeRules values) ⌝ }
 {
     if !state::sp_fits(values[8]) {

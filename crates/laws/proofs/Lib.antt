@@ -1,4 +1,5 @@
 pub mod Differences
 pub mod Integers
+pub mod Parts
 pub mod Runs
 pub mod Tests

@@ -38,6 +38,26 @@ ValuesFit [] (x ∷ values) = ⊥
 ValuesFit (f ∷ fields) [] = ⊥
 ValuesFit (f ∷ fields) (x ∷ values) = (x < 256 ^ f .width) × ValuesFit fields values
 
+-- field by field
+pub values-fit : (fields : List Field) (values : List ℕ) → length values ≡ length fields → ((i : ℕ) → i < length fields → getD values i 0 < 256 ^ widthAt fields i)
+    → ValuesFit fields values
+values-fit [] [] l h = tt
+values-fit [] (x ∷ values) l h = absurd (omega arith)
+values-fit (f ∷ fields) [] l h = absurd (omega arith)
+values-fit (f ∷ fields) (x ∷ values) l h = (h 0 (omega arith), values-fit fields values (omega arith) (λ i m. h (suc i) (omega arith)))
+
+pub fits-at : (fields : List Field) (values : List ℕ) → ValuesFit fields values → (i : ℕ) → i < length fields → getD values i 0 < 256 ^ widthAt fields i
+fits-at [] values fit i l = absurd (omega arith)
+fits-at (f ∷ fields) [] fit i l = absurd fit
+fits-at (f ∷ fields) (x ∷ values) fit zero l = fit .0
+fits-at (f ∷ fields) (x ∷ values) fit (suc i) l = fits-at fields values (fit .1) i (le-of-suc-le-suc l)
+
+pub fits-length : (fields : List Field) (values : List ℕ) → ValuesFit fields values → length values ≡ length fields
+fits-length [] [] fit = refl
+fits-length [] (x ∷ values) fit = absurd fit
+fits-length (f ∷ fields) [] fit = absurd fit
+fits-length (f ∷ fields) (x ∷ values) fit = ap suc (fits-length fields values (fit .1))
+
 pub decode-encode : (fields : List Field) (values : List ℕ) → ValuesFit fields values → decode fields (encode fields values) ≡ values
 decode-encode [] [] fit = refl
 decode-encode [] (x ∷ values) fit = absurd fit
@@ -68,6 +88,13 @@ decode-below [] i bytes l h = absurd (omega arith)
 decode-below (f ∷ fields) zero bytes l h = load-below (f .width) bytes 0 h
 decode-below (f ∷ fields) (suc i) bytes l h =
     decode-below fields i (drop (f .width) bytes) (le-of-suc-le-suc l) (λ k. rw getD-drop (h (f .width + k)))
+
+-- ---- past the last field
+
+pub width-past : (fields : List Field) (i : ℕ) → length fields ≤ i → 0 ≡ widthAt fields i
+width-past [] i l = refl
+width-past (f ∷ fields) zero l = absurd (omega arith)
+width-past (f ∷ fields) (suc i) l = width-past fields i (le-of-suc-le-suc l)
 
 -- ---- one field more
 

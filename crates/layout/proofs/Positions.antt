@@ -1,12 +1,14 @@
 -- The position that a refusal carries is that of the first field that fails.
-use Prim.Native.Nat.{ℕ, _+_}
-use mathlib.Core.Bool.{true, false}
+use Prim.Native.Nat.{ℕ, zero, suc, _+_, _<_}
+use mathlib.Core.Bool.{true, false, not, cond}
 use mathlib.Core.List.{List, [], _∷_, _++_, map}
 use mathlib.Core.Path.{_≡_, refl, ap, _∙_}
+use native.Mathlib.Nat.{le-of-suc-le-suc}
 use native.Mathlib.Omega.{arith}
-use lib.ListN.{take}
-use Rattle.refusal.specs.Refusals.{refused, decision}
-use Rattle.layout.specs.StoredForm.{Test, Field, storedForm, formLength, lengthOf, fieldRules}
+use lib.ListN.{length, getD, take, drop}
+use Rattle.refusal.specs.Refusals.{accepted, refused, decision}
+use Rattle.refusal.proofs.Theorems.{passes}
+use Rattle.layout.specs.StoredForm.{Test, Field, storedForm, formLength, lengthOf, fieldAt, widthAt, fieldRules}
 
 module _ (test : Field → Test) (n kind : ℕ) where
   -- each of these fields has a value, which passes
@@ -27,6 +29,36 @@ module _ (test : Field → Test) (n kind : ℕ) where
   first-fails (g ∷ before) later f (y ∷ passed) others x at all fails =
       let e : at + g .width + lengthOf before ≡ at + (g .width + lengthOf before) = omega arith in
       rw (all .0) (first-fails before later f passed others x (at + g .width) (all .1) fails ∙ ap (λ p. refused n (p ∷ [])) e)
+
+-- ---- the tests of a table, one by one
+
+module _ (test : Field → Test) (n kind : ℕ) where
+  -- what is accepted has passed every one
+  pub each-passes : (fields : List Field) (values : List ℕ) (at i : ℕ) → decision (fieldRules test n kind at fields values) ≡ accepted
+      → i < length fields → i < length values → test (fieldAt fields i) kind (getD values i 0) ≡ true
+  each-passes [] values at i e l m = absurd (omega arith)
+  each-passes (f ∷ fields) [] at i e l m = absurd (omega arith)
+  each-passes (f ∷ fields) (x ∷ values) at zero e l m = passes (test f kind x) n (at ∷ []) _ e .0
+  each-passes (f ∷ fields) (x ∷ values) at (suc i) e l m =
+      each-passes fields values (at + f .width) i (passes (test f kind x) n (at ∷ []) _ e .1) (le-of-suc-le-suc l) (le-of-suc-le-suc m)
+
+  -- and what passes every one is accepted
+  pub all-pass : (fields : List Field) (values : List ℕ) (at : ℕ) → ((i : ℕ) → i < length fields → test (fieldAt fields i) kind (getD values i 0) ≡ true)
+      → decision (fieldRules test n kind at fields values) ≡ accepted
+  all-pass [] values at h = refl
+  all-pass (f ∷ fields) [] at h = refl
+  all-pass (f ∷ fields) (x ∷ values) at h = rw (h 0 (omega arith)) (all-pass fields values (at + f .width) (λ i l. h (suc i) (omega arith)))
+
+  -- the next one
+  pub next-rule : (fields : List Field) (values : List ℕ) (at i : ℕ) → i < length fields → i < length values
+      → decision (fieldRules test n kind at (drop i fields) (drop i values))
+      ≡ cond (not (test (fieldAt fields i) kind (getD values i 0))) (refused n (at ∷ [])) (decision (fieldRules test n kind (at + widthAt fields i) (drop (suc i) fields) (drop (suc i) values)))
+  next-rule [] values at i l m = absurd (omega arith)
+  next-rule (f ∷ fields) [] at i l m = absurd (omega arith)
+  next-rule (f ∷ fields) (x ∷ values) at zero l m = refl
+  next-rule (f ∷ fields) (x ∷ values) at (suc i) l m = next-rule fields values at i (le-of-suc-le-suc l) (le-of-suc-le-suc m)
+
+-- ---- positions
 
 -- the bytes before each field of the stored form: r0 to r7, SP, base kind, offset, place, flags
 pub positions : map (λ (k : ℕ). lengthOf (take k storedForm)) (0 ∷ 1 ∷ 2 ∷ 3 ∷ 4 ∷ 5 ∷ 6 ∷ 7 ∷ 8 ∷ 9 ∷ 10 ∷ 11 ∷ 12 ∷ [])

@@ -87,7 +87,7 @@ stands-parts values l t =
 
 -- ---- a record and its values
 
-record-back : (r : Record) → length (r .regs) ≡ 8 → recordOf (valuesOf r) ≡ r
+pub record-back : (r : Record) → length (r .regs) ≡ 8 → recordOf (valuesOf r) ≡ r
 record-back r l =
     let e = whole 8 (r .regs) l in
     let more = r .sp ∷ kindOf (r .base) ∷ offsetOf (r .base) ∷ r .place ∷ flagsNumber (r .flags) ∷ [] in
@@ -99,7 +99,7 @@ own-values r l =
     subst (λ (regs : List ℕ). Stands (regs ++ more)) (whole 8 (r .regs) l)
     (rw (le-leb (kindOf (r .base)) 2 (kind-small (r .base)), own-stands (r .base), le-leb (flagsNumber (r .flags)) 15 (number-small (r .flags))))
 
-values-back : (values : List ℕ) → length values ≡ 13 → Stands values → valuesOf (recordOf values) ≡ values
+pub values-back : (values : List ℕ) → length values ≡ 13 → Stands values → valuesOf (recordOf values) ≡ values
 values-back values l t =
     let p = stands-parts values l t in
     let b = numbers-back (getD values 9 0) (getD values 10 0) (p .0) (p .1) in
@@ -118,7 +118,8 @@ held bytes t =
 -- ---- the round trips
 
 module _ (r : Record) (h : Held r) where
-  fits : ValuesFit storedForm (valuesOf r)
+  -- each value has its field's width
+  pub fits : ValuesFit storedForm (valuesOf r)
   fits = subst (λ (regs : List ℕ). ValuesFit storedForm (regs ++ (r .sp ∷ kindOf (r .base) ∷ offsetOf (r .base) ∷ r .place ∷ flagsNumber (r .flags) ∷ []))) (whole 8 (r .regs) (h .eight))
       (h .words 0, (h .words 1, (h .words 2, (h .words 3, (h .words 4, (h .words 5, (h .words 6, (h .words 7, (h .sp, (omega (arith, kind-small (r .base)), (h .offset, (h .place, (omega (arith, number-small (r .flags)), tt)))))))))))))
 

@@ -19,14 +19,22 @@ use Rattle.state.specs.declared.Record.{Record}
 abbrev pub Test : Type 0
 Test = ℕ → ℕ → Bool
 
--- a field: its width in bytes, the build paper's range test, and a test of the host's, whether the value is some record's, fit or not
+-- what the short form has for a field: its value; the number of words from there to 0x18000; or its value, unless the base is none
+pub data Short : Type 0 where
+  asIs : Short
+  inWords : Short
+  unlessNone : Short
+
+-- a field: its width in bytes, the build paper's range test, a test of the host's, whether the value is some record's, fit or not,
+-- and what the short form has for it
 pub record Field : Type 0 where
   pub width : ℕ
   pub range : Test
   pub stands : Test
+  pub short : Short
 
-abbrev pub field : ℕ → Test → Test → Field
-field width range stands = record { width = width; range = range; stands = stands }
+abbrev pub field : ℕ → Test → Test → Short → Field
+field width range stands short = record { width = width; range = range; stands = stands; short = short }
 
 abbrev pub anyValue : Test
 anyValue kind x = true
@@ -56,19 +64,19 @@ flagsInRange kind x = leb x 15
 -- the build paper's stored form: r0 to r7, SP, base kind, offset, place, flags
 abbrev pub storedForm : List Field
 storedForm =
-    field 4 anyValue anyValue
-    ∷ field 4 anyValue anyValue
-    ∷ field 4 anyValue anyValue
-    ∷ field 4 anyValue anyValue
-    ∷ field 4 anyValue anyValue
-    ∷ field 4 anyValue anyValue
-    ∷ field 4 anyValue anyValue
-    ∷ field 4 anyValue anyValue
-    ∷ field 4 spInRange anyValue
-    ∷ field 1 kindInRange kindInRange
-    ∷ field 4 offsetInRange offsetStands
-    ∷ field 2 placeInRange anyValue
-    ∷ field 1 flagsInRange flagsInRange
+    field 4 anyValue anyValue asIs
+    ∷ field 4 anyValue anyValue asIs
+    ∷ field 4 anyValue anyValue asIs
+    ∷ field 4 anyValue anyValue asIs
+    ∷ field 4 anyValue anyValue asIs
+    ∷ field 4 anyValue anyValue asIs
+    ∷ field 4 anyValue anyValue asIs
+    ∷ field 4 anyValue anyValue asIs
+    ∷ field 4 spInRange anyValue inWords
+    ∷ field 1 kindInRange kindInRange asIs
+    ∷ field 4 offsetInRange offsetStands unlessNone
+    ∷ field 2 placeInRange anyValue asIs
+    ∷ field 1 flagsInRange flagsInRange asIs
     ∷ []
 
 -- in bytes
@@ -81,11 +89,14 @@ abbrev pub lengthOf : List Field → ℕ
 lengthOf [] = 0
 lengthOf (f ∷ fields) = f .width + lengthOf fields
 
--- the width of field i
+-- field i; past the last an empty one
+abbrev pub fieldAt : List Field → ℕ → Field
+fieldAt [] i = field 0 anyValue anyValue asIs
+fieldAt (f ∷ fields) zero = f
+fieldAt (f ∷ fields) (suc i) = fieldAt fields i
+
 abbrev pub widthAt : List Field → ℕ → ℕ
-widthAt [] i = 0
-widthAt (f ∷ fields) zero = f .width
-widthAt (f ∷ fields) (suc i) = widthAt fields i
+widthAt fields i = fieldAt fields i .width
 
 abbrev pub encode : List Field → List ℕ → List ℕ
 encode [] values = []

@@ -32,6 +32,17 @@ fn size_of(i: usize) -> Size
     }
 }
 
+// The width of a field; 0 past the last.
+pub fn width_of(i: usize) -> u32
+    ensures { λ n. ⌜ n ≡ widthAt storedForm i ⌝ }
+{
+    if i < 13 {
+        endian::width(size_of(i)) as u32
+    } else {
+        0
+    }
+}
+
 // The values go to the room, one after the other.
 fn write_values(values: [u32; 13], room: &mut [u8])
     requires { ⌜ length (now room) ≡ 44 ⌝ }
@@ -200,6 +211,15 @@ pub fn record_in(bytes: &[u8]) -> Record
     ensures { λ r. ⌜ r ≡ recordIn (now (bytes .entry)) ⌝ }
 {
     record_of(values_in(bytes))
+}
+
+// The record whose bytes are those of the values; of a value that is past its field, the low bytes.
+pub fn record_with(values: [u32; 13]) -> Record
+    ensures { λ r. ⌜ r ≡ recordIn (encode storedForm values) ⌝ }
+{
+    let mut bytes = [0u8; 44];
+    write_values(values, &mut bytes);
+    record_in(&bytes)
 }
 
 // ---- bytes that hold a record, fit or not

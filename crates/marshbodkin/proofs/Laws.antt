@@ -1,4 +1,4 @@
--- Records and runs as they cross.
+-- Runs as they cross.
 use Prim.Native.Nat.{ℕ}
 use mathlib.Core.Bool.{true, false}
 use mathlib.Core.List.{List}
@@ -6,49 +6,21 @@ use mathlib.Core.Path.{_≡_, sym, ap, _∙_}
 use lib.ListN.{length}
 use borrow.Author.Tests.{eq-eqb}
 use Rattle.platform.specs.Programs.{Setting}
-use Rattle.state.specs.Record.{freshRecord}
 use Rattle.state.specs.declared.Record.{Record}
 use Rattle.stop.specs.Stops.{reasonOf}
 use Rattle.machine.specs.Runs.{Gives}
 use Rattle.machine.specs.declared.Answer as machine
-use Rattle.refusal.specs.Refusals.{Decision, accepted, decision, isAccepted, whenAccepted, decisionOf}
+use Rattle.refusal.specs.Refusals.{Decision, decision, isAccepted, whenAccepted, decisionOf}
 use Rattle.refusal.specs.declared.Refusal.{Refusal}
 use Rattle.refusal.specs.declared.Verdict.{Verdict}
 use Rattle.refusal.specs.declared.Verdict.the-variants.{Accepted, Refused}
 use Rattle.refusal.proofs.Theorems.{joined}
 use Rattle.admission.specs.RunRefusals.{areaRules}
-use Rattle.layout.specs.StoredForm.{recordBytes, recordIn, roomWith, heldRules, holdsRecord}
+use Rattle.layout.specs.StoredForm.{recordIn, roomWith, heldRules, holdsRecord}
 use Rattle.layout.proofs.Theorems.{held}
-use Rattle.form.specs.Storing.{LoadAnswer, loadRules, loadRecord, seenReadBack}
-use Rattle.form.specs.declared.ReadBack.{ReadBack}
-use Rattle.form.proofs.Decisions.{by-rest}
 use Rattle.crossing.specs.Numbers.{refusedWith, stopNumbers}
 use Rattle.crossing.specs.declared.StopNumbers.{StopNumbers}
-use Rattle.marshbodkin.specs.Crossing.{formDecision, formRoom}
 use Rattle.marshbodkin.specs.HostRuns.{Crossed, hostRun}
-
--- ---- records
-
-module _ (bytes room : List ℕ) where
-  -- the decision says what becomes of the room
-  pub room-by : (d : Decision) → d ≡ formDecision bytes room → whenAccepted d (recordBytes (recordIn bytes)) room ≡ formRoom bytes room
-  room-by d e = ap (λ (w : Decision). whenAccepted w (recordBytes (recordIn bytes)) room) e
-
-  module _ (m : length room ≡ 44) (a : ReadBack) (e : seenReadBack a ≡ loadRecord bytes) where
-    -- with room for it, bytes are read back as 01's call reads them
-    read-decision : loadRecord bytes .decision ≡ formDecision bytes room
-    read-decision = by-rest (length room) (loadRules bytes) m
-
-    pub decided : (v : Verdict) → a .verdict ≡ v → decisionOf v ≡ formDecision bytes room
-    decided v told = ap decisionOf (sym told) ∙ ap (λ (x : LoadAnswer). x .decision) e ∙ read-decision
-
-    pub read : a .verdict ≡ Accepted → roomWith (a .loaded) room ≡ formRoom bytes room
-    read told =
-        let t = decided Accepted told in
-        let loaded : a .loaded ≡ recordIn bytes =
-        ap (λ (x : LoadAnswer). x .loaded) e ∙ ap (λ (d : Decision). whenAccepted d (recordIn bytes) freshRecord) (read-decision ∙ sym t) in
-        let written : roomWith (a .loaded) room ≡ recordBytes (a .loaded) = rw (eq-eqb (length room) 44 m) in
-        written ∙ ap recordBytes loaded ∙ room-by accepted t
 
 -- ---- runs
 

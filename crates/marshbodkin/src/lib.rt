@@ -11,6 +11,7 @@ ghost use Rattle.state.specs.Validation.{validateBase};
 ghost use Rattle.count.specs.Count.{countProgram};
 ghost use Rattle.bundle.specs.Reader.{readBundle};
 ghost use Rattle.layout.specs.StoredForm.{roomWith};
+ghost use Rattle.packing.specs.Packing.{packDecision, pack, roomAfterPack, unpackDecision, roomAfterUnpack};
 ghost use Rattle.crossing.specs.Exits.{decodedExit};
 ghost use Rattle.crossing.specs.Numbers.{codeOf, positionOf, largestKind, largestNumber};
 ghost use Rattle.marshbodkin.specs.Crossing.{freshDecision, formDecision, formRoom};
@@ -137,6 +138,40 @@ pub extern "C" fn mb_raw_load(stored: &[u8], bytes: &mut [u8], position: &mut u3
     crossing::code_of(verdict)
 }
 
+// ---- the short form
+
+// The short form of a stored record goes to the start of the room.
+#[no_mangle]
+pub extern "C" fn mb_raw_pack(
+    stored: &[u8],
+    room: &mut [u8],
+    length: &mut usize,
+    position: &mut u32,
+) -> u32
+    ensures { λ code. ⌜ (code ≡ codeOf (packDecision (now (stored .entry)) (now (room .entry))))
+        × (now (length .exit) ≡ pack (now (stored .entry)) (now (room .entry)) .length)
+        × (now (position .exit) ≡ positionOf (packDecision (now (stored .entry)) (now (room .entry))))
+        × (now (room .exit) ≡ roomAfterPack (now (stored .entry)) (now (room .entry))) ⌝ }
+{
+    let packed = packing::pack(stored, room);
+    let verdict = packed.verdict;
+    *length = packed.length;
+    *position = crossing::position_of(verdict);
+    crossing::code_of(verdict)
+}
+
+// The stored form of a record in the short one goes to the room.
+#[no_mangle]
+pub extern "C" fn mb_raw_unpack(packed: &[u8], room: &mut [u8], position: &mut u32) -> u32
+    ensures { λ code. ⌜ (code ≡ codeOf (unpackDecision (now (packed .entry)) (now (room .entry))))
+        × (now (position .exit) ≡ positionOf (unpackDecision (now (packed .entry)) (now (room .entry))))
+        × (now (room .exit) ≡ roomAfterUnpack (now (packed .entry)) (now (room .entry))) ⌝ }
+{
+    let verdict = packing::unpack(packed, room);
+    *position = crossing::position_of(verdict);
+    crossing::code_of(verdict)
+}
+
 // ---- steps and runs
 
 // A stop's numbers go where they are asked for; the code comes back.
@@ -255,7 +290,7 @@ pub extern "C" fn mb_raw_exit(
 
 const MAJOR: u32 = 0;
 
-const MINOR: u32 = 5;
+const MINOR: u32 = 6;
 
 const PATCH: u32 = 0;
 

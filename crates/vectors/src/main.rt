@@ -41,19 +41,23 @@ fn show_verdict(verdict: Verdict) {
 
 // ---- refusals
 
-// The line of each, in the order of their numbers, with every position that can be told.
+// The line of each, in the order of their numbers, with the positions that can be told, of registers the first and the last.
 fn refusals() {
     show_refusal(Refusal::PageLength);
     show_refusal(Refusal::RamLength);
     show_refusal(Refusal::ExternalLength);
     show_refusal(Refusal::UnfitPlace);
     show_refusal(Refusal::FormLength);
+    show_refusal(Refusal::FormRange(0));
+    show_refusal(Refusal::FormRange(28));
     show_refusal(Refusal::FormRange(32));
     show_refusal(Refusal::FormRange(36));
     show_refusal(Refusal::FormRange(37));
     show_refusal(Refusal::FormRange(41));
     show_refusal(Refusal::FormRange(43));
     show_refusal(Refusal::NoSuchBundle);
+    show_refusal(Refusal::NotGrouped);
+    show_refusal(Refusal::RoomTooSmall);
     show_refusal(Refusal::UnknownProfile);
     show_refusal(Refusal::SpBounds);
     show_refusal(Refusal::SpAlignment);

@@ -1,0 +1,2 @@
+pub mod ShortForms
+pub mod Examples
