@@ -4,13 +4,14 @@ use mathlib.Core.Path.{_≡_, sym, ap, _∙_}
 use mathlib.Core.Bool.{true≢false}
 use mathlib.Core.List.{List, [], _∷_}
 use lib.ListN.{length, getD}
-use Rattle.refusal.specs.Refusals.{accepted, decision, isAccepted}
+use Rattle.refusal.specs.Refusals.{accepted, refused, decision, isAccepted}
 use Rattle.state.specs.declared.Record.{Record}
 use Rattle.layout.specs.StoredForm.{storedForm, widthAt, rangeRules, valuesOf, recordOf, Held}
 use Rattle.layout.proofs.Fields.{ValuesFit, fits-at, fits-length}
 use Rattle.layout.proofs.Theorems.{record-back, values-back, fits}
 use Rattle.form.proofs.Ranges.{InRange, ranged}
 use Rattle.short_layout.specs.ShortForm.{Numbers, grouped, notGrouped, numbersIn, bytesFor, shortBytes, numbersFor, valuesFor, shortForm}
+use Rattle.short_layout.proofs.Theorems as Layout
 use Rattle.short_layout.proofs.Theorems.{form-fitting, fitting-length, written-read, ReadFrom, read-from}
 use Rattle.short_form.specs.ShortStoring.{isGrouped, numbersOf, groupsRule, numberRules, readRules, readRecord, recordShort}
 use Rattle.short_form.proofs.Numbers as Numbers
@@ -64,7 +65,11 @@ pub bytes-kept : (bytes : List ℕ) → ((k : ℕ) → getD bytes k 0 < 256) →
 unfolding numbersIn
 bytes-kept bytes h t = kept bytes (numbersIn bytes) (read-from storedForm [] bytes h) t
 
--- and are what would be written for the record
+-- a form of more bytes than thirteen numbers can have is 9, whatever they are
+pub too-long : (bytes : List ℕ) → ((k : ℕ) → getD bytes k 0 < 256) → 65 < length bytes → decision (readRules bytes) ≡ refused 9 []
+too-long bytes h l = rw (Layout.too-long bytes h l)
+
+-- bytes that are accepted are what would be written for the record
 module _ (bytes : List ℕ) (h : (k : ℕ) → getD bytes k 0 < 256) (t : decision (readRules bytes) ≡ accepted) where
   abbrev values : List ℕ
   values = valuesFor (numbersOf (numbersIn bytes))

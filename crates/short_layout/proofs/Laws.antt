@@ -50,7 +50,7 @@ written-more [] i before numbers l m = absurd (omega arith)
 written-more (f ∷ fields) i before [] l m = absurd (omega arith)
 written-more (f ∷ fields) zero before (n ∷ numbers) l m = rw (append-nil before, append-nil (fieldBytes (f .short) (kindAmong before) n))
 written-more (f ∷ fields) (suc i) before (n ∷ numbers) l m =
-    rw (written-more fields i (before ++ (n ∷ [])) numbers (le-of-suc-le-suc l) (le-of-suc-le-suc m), append-assoc, append-assoc)
+    rw (written-more fields i (before ++ (n ∷ [])) numbers (le-of-suc-le-suc l) (le-of-suc-le-suc m), append-assoc before (n ∷ []) (take i numbers), append-assoc)
 
 -- a turn of the loop
 pub field-more : (i : ℕ) (numbers : List ℕ) → i < 13 → length numbers ≡ 13

@@ -12,7 +12,7 @@ use borrow.Author.Tests.{not-false, eqb-true}
 use Rattle.layout.specs.StoredForm.{Short, Field, storedForm, fieldAt}
 use Rattle.leb128.specs.Leb128.{mostGroups, leb128, NumberAnswer, number, cutOff, tooManyGroups, notShortest, readNumber}
 use Rattle.leb128.proofs.Theorems.{length-most, written-reads, Reads, reads}
-use Rattle.short_layout.specs.ShortForm.{isThere, kindAmong, fieldBytes, bytesFor, Numbers, grouped, notGrouped, fieldIn, whenRead, numbersBehind}
+use Rattle.short_layout.specs.ShortForm.{isThere, kindAmong, fieldBytes, bytesFor, Numbers, grouped, notGrouped, fieldIn, whenRead, numbersBehind, numbersIn}
 use Rattle.short_layout.proofs.Laws.{always-there}
 
 -- a number for each field, of five groups at most, and 0 where the field is left out
@@ -141,3 +141,12 @@ length-most-five (f ∷ fields) before (n ∷ numbers) =
     most : (t : Bool) → length (cond t (leb128 n) []) ≤ 5
     most true = length-most 5 n
     most false = omega arith
+
+-- so bytes that are more aren't grouped
+pub too-long : (bytes : List ℕ) → ((k : ℕ) → getD bytes k 0 < 256) → 65 < length bytes → numbersIn bytes ≡ notGrouped
+unfolding numbersIn
+too-long bytes h l = none (numbersIn bytes) (read-from storedForm [] bytes h)
+  where
+    none : (ns : Numbers) → ReadFrom storedForm [] bytes ns → ns ≡ notGrouped
+    none (grouped all) from = absurd (omega (arith, ap length (from .3), length-most-five storedForm [] (from .0)))
+    none notGrouped from = refl
