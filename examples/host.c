@@ -53,10 +53,10 @@ static void give_up(const char *why, const char *words)
     exit(1);
 }
 
-/* A refusal in words, with the field of the record where one is told: 0 is r0's position, and no refusal's. */
+/* A refusal in words, with the field of the record where one is told: 0 is r0's position with 7, and else no field's. */
 static void tell_refusal(FILE *to, uint32_t number, uint32_t position)
 {
-    if (position == 0)
+    if (position == 0 && number != MB_REFUSED_FORM_RANGE)
         fprintf(to, "refused %u: %s\n", number, mb_refusal_words(number));
     else
         fprintf(to, "refused %u %u: %s at %s\n", number, position, mb_refusal_words(number), mb_field_words(position));
@@ -183,21 +183,28 @@ static void cycle(host *h, unsigned first, unsigned number)
     } while (goes_on(h, &stopped));
 }
 
-/* Between cycles the record is 44 bytes, which a file or a link would take. What is damaged on the way and out of range then
- * is told by its field, here SP; the record stays as it was, and the bytes are sent once more. */
+/* Between cycles the record is 44 bytes, which a file would take; over a slow link it goes packed. What is damaged on the way
+ * and out of range then is told by its field, here the flags, which stand last; nothing is unpacked, and the bytes are sent
+ * once more. */
 static void over_a_link(mb_record *record)
 {
-    uint8_t sent[MB_RECORD_BYTES];
+    uint8_t stored[MB_RECORD_BYTES], sent[MB_SHORT_MOST];
+    size_t length;
     mb_refused refused;
-    mb_store(record, sent, sizeof sent, &refused);
+    mb_store(record, stored, sizeof stored, &refused);
     require(refused.number, refused.position);
-    sent[MB_AT_SP] ^= 1;
-    if (mb_load(sent, sizeof sent, record, &refused) != MB_ACCEPTED) {
+    mb_pack(stored, sizeof stored, sent, sizeof sent, &length, &refused);
+    require(refused.number, refused.position);
+    printf("packed %u bytes\n", (unsigned)length);
+    sent[length - 1] ^= 16;
+    if (mb_unpack(sent, length, stored, sizeof stored, &refused) != MB_ACCEPTED) {
         printf("damaged: ");
         tell_refusal(stdout, refused.number, refused.position);
     }
-    sent[MB_AT_SP] ^= 1;
-    mb_load(sent, sizeof sent, record, &refused);
+    sent[length - 1] ^= 16;
+    mb_unpack(sent, length, stored, sizeof stored, &refused);
+    require(refused.number, refused.position);
+    mb_load(stored, sizeof stored, record, &refused);
     require(refused.number, refused.position);
 }
 

@@ -5,8 +5,8 @@
  *
  * What a call that can be refused answers: 0 (accepted) or the number of a
  * refusal, one of "Answers" below. The rest it writes into what it is lent for
- * it. A refused call writes an empty result there (count 0, no base, a stop of
- * kind MB_STOP_REFUSED), and leaves record, RAM and room as they were.
+ * it. A refused call writes an empty result there (count 0, no base, length 0, a
+ * stop of kind MB_STOP_REFUSED), and leaves record, RAM and room as they were.
  *
  * What the caller owes, in every call:
  * - an area of bytes is as long as its length says; it may be null if that is 0;
@@ -39,12 +39,12 @@
  * it against mb_version() before any other call: the archive of another version
  * takes other arguments, and the linker doesn't see it.
  *
- * A host of 0.4 is compiled anew, since mb_stopped and mb_refused have a field more.
- * Its text changes where it names MB_REFUSED_UNFIT_RECORD (4), which is gone: 41 to
- * 44 stand in its place. mb_raw_store, mb_raw_load, mb_raw_run and mb_raw_step take
- * a number more, the position. */
+ * A host of 0.5 is compiled anew, for the version's sake alone: nothing is gone or
+ * takes other arguments, so its text stays. New are mb_pack and mb_unpack, with the
+ * refusals 9 and 10, which no other call answers. Where mb_unpack comes into use, 0
+ * as an mb_refused's position may tell a field: with 7 it is r0, from mb_unpack alone. */
 #define MB_VERSION_MAJOR 0
-#define MB_VERSION_MINOR 5
+#define MB_VERSION_MINOR 6
 #define MB_VERSION_PATCH 0
 #define MB_VERSION (65536u * MB_VERSION_MAJOR + 256u * MB_VERSION_MINOR + MB_VERSION_PATCH)
 
@@ -57,6 +57,8 @@ extern "C" {
 /* Sizes in bytes. */
 enum {
     MB_RECORD_BYTES = 44,        /* a stored record */
+    MB_SHORT_LEAST = 12,         /* a stored record in the short form: from this .. */
+    MB_SHORT_MOST = 49,          /* .. to this */
     MB_RAM_BYTES = 32768,
     MB_BUNDLE_BYTES = 4,
     MB_PAGE_MOST = 256,          /* and whole bundles */
@@ -79,6 +81,8 @@ enum {
     MB_REFUSED_FORM_LENGTH = 6,
     MB_REFUSED_FORM_RANGE = 7,         /* with the position of the field */
     MB_REFUSED_NO_SUCH_BUNDLE = 8,
+    MB_REFUSED_NOT_GROUPED = 9,        /* of a short form */
+    MB_REFUSED_ROOM_TOO_SMALL = 10,    /* for what is to be written */
     MB_REFUSED_UNKNOWN_PROFILE = 18,
     MB_REFUSED_SP_BOUNDS = 41,         /* below 0x10000 or above 0x18000 */
     MB_REFUSED_SP_ALIGNMENT = 42,      /* no multiple of 4 */
@@ -91,8 +95,9 @@ enum {
 };
 
 /* Positions: where the fields of a record begin in its 44 bytes. With 7 and 255 a
- * call tells that of the first field that fails, which r0 to r7 never do; so 0 is
- * what it gives where it tells no field. */
+ * call tells that of the first field that fails. r0 to r7 fail in mb_unpack alone,
+ * by a number of 2^32 or more. So with 7 the position 0 is r0; with any other answer
+ * it is what the call gives where it tells no field. */
 enum {
     MB_AT_R0 = 0, /* r1 to r7 every four bytes */
     MB_AT_SP = 32,
@@ -172,7 +177,7 @@ uint32_t mb_raw_validate(uint32_t v, const uint8_t *external, size_t external_le
 /* Refused (6): the length isn't 44. */
 uint32_t mb_raw_fresh(uint8_t *record, size_t record_length);
 
-/* This call and the three below write *position whatever they answer: with 7 and
+/* This call and the five below write *position whatever they answer: with 7 and
  * 255 that of the first field that fails, else 0, with 255 too where the bytes
  * aren't 44. Refused (6, 7), as mb_store and mb_load; the record's length is tested
  * too (6). */
@@ -181,6 +186,14 @@ uint32_t mb_raw_store(const uint8_t *record, size_t record_length,
 
 uint32_t mb_raw_load(const uint8_t *stored, size_t stored_length,
                      uint8_t *record, size_t record_length, uint32_t *position);
+
+/* Refused (6, 7, 10), as mb_pack: *length is 0. */
+uint32_t mb_raw_pack(const uint8_t *stored, size_t stored_length,
+                     uint8_t *room, size_t room_length, size_t *length, uint32_t *position);
+
+/* Refused (6, 9, 7), as mb_unpack. */
+uint32_t mb_raw_unpack(const uint8_t *packed, size_t packed_length,
+                       uint8_t *room, size_t room_length, uint32_t *position);
 
 /* The record crosses without the stored form's range tests, so that one that
  * isn't fit is refused by 41 to 44 or 5. Bytes that hold no record (255) are not 44
@@ -262,10 +275,11 @@ typedef struct {
     uint32_t largest; /* the largest successor, 0 if there is none */
 } mb_reading;
 
-/* What a store or load says: the number that it answers, and where in the record. */
+/* What a store, load, pack or unpack says: the number that it answers, and where in
+ * the record. */
 typedef struct {
     uint32_t number;
-    uint32_t position; /* one of MB_AT_* where the number is 7, else 0 */
+    uint32_t position; /* where the number is 7 a field's, MB_AT_R0 too; else 0 */
 } mb_refused;
 
 /* A part that the kind doesn't name is 0. */
@@ -305,7 +319,7 @@ static inline uint32_t mb_internal_get(const uint8_t *bytes, size_t width)
     return value;
 }
 
-static inline void mb_internal_pack(const mb_record *record, uint8_t *bytes)
+static inline void mb_internal_to_bytes(const mb_record *record, uint8_t *bytes)
 {
     uint32_t flags = (record->n ? 8u : 0u) | (record->z ? 4u : 0u) | (record->c ? 2u : 0u) | (record->v ? 1u : 0u);
     for (size_t i = 0; i < 8; i++)
@@ -317,7 +331,7 @@ static inline void mb_internal_pack(const mb_record *record, uint8_t *bytes)
     mb_internal_put(bytes + MB_AT_FLAGS, 1, flags);
 }
 
-static inline void mb_internal_unpack(const uint8_t *bytes, mb_record *record)
+static inline void mb_internal_from_bytes(const uint8_t *bytes, mb_record *record)
 {
     uint32_t flags = mb_internal_get(bytes + MB_AT_FLAGS, 1);
     for (size_t i = 0; i < 8; i++)
@@ -375,7 +389,7 @@ static inline mb_record mb_fresh(void)
     uint8_t bytes[MB_RECORD_BYTES];
     mb_record record;
     mb_raw_fresh(bytes, sizeof bytes); /* refuses another length alone */
-    mb_internal_unpack(bytes, &record);
+    mb_internal_from_bytes(bytes, &record);
     return record;
 }
 
@@ -434,7 +448,7 @@ static inline uint32_t mb_store(const mb_record *record, uint8_t *room, size_t r
 {
     uint8_t bytes[MB_RECORD_BYTES], own = 0;
     uint32_t answer, position = 0;
-    mb_internal_pack(record, bytes);
+    mb_internal_to_bytes(record, bytes);
     answer = mb_raw_store(bytes, sizeof bytes, mb_internal_written(room, room_length, &own), room_length, &position);
     return mb_internal_said(answer, position, refused);
 }
@@ -449,7 +463,37 @@ static inline uint32_t mb_load(const uint8_t *stored, size_t stored_length, mb_r
     uint32_t answer = mb_raw_load(mb_internal_read(stored, stored_length, &own), stored_length, bytes, sizeof bytes,
                                   &position);
     if (answer == MB_ACCEPTED)
-        mb_internal_unpack(bytes, record);
+        mb_internal_from_bytes(bytes, record);
+    return mb_internal_said(answer, position, refused);
+}
+
+/* Packs a stored record: writes its short form, for slow links, to the start of the
+ * room, and how long it is to *length. The room's bytes past it stay. A room of
+ * MB_SHORT_MOST bytes does for every record. Refused: the stored form has another
+ * length than MB_RECORD_BYTES (6); the record in it is out of range (7), at the
+ * position that refused then has; the room is too small for this record (10). */
+static inline uint32_t mb_pack(const uint8_t *stored, size_t stored_length, uint8_t *room, size_t room_length,
+                               size_t *length, mb_refused *refused)
+{
+    uint8_t own[2] = {0, 0};
+    uint32_t position = 0;
+    uint32_t answer = mb_raw_pack(mb_internal_read(stored, stored_length, &own[0]), stored_length,
+                                  mb_internal_written(room, room_length, &own[1]), room_length, length, &position);
+    return mb_internal_said(answer, position, refused);
+}
+
+/* Unpacks a short form: writes the stored record to a room of MB_RECORD_BYTES bytes.
+ * Refused: the room has another length (6); a number has more groups than it needs
+ * or than five, is cut off, or something follows the last (9); the record is out of
+ * range, or a number is past its field (7), at the position that refused then has,
+ * in the stored form. */
+static inline uint32_t mb_unpack(const uint8_t *packed, size_t packed_length, uint8_t *room, size_t room_length,
+                                 mb_refused *refused)
+{
+    uint8_t own[2] = {0, 0};
+    uint32_t position = 0;
+    uint32_t answer = mb_raw_unpack(mb_internal_read(packed, packed_length, &own[0]), packed_length,
+                                    mb_internal_written(room, room_length, &own[1]), room_length, &position);
     return mb_internal_said(answer, position, refused);
 }
 
@@ -461,14 +505,14 @@ static inline uint32_t mb_run(const mb_setting *setting, uint8_t *ram, size_t ra
     const mb_program *program = &setting->program;
     uint8_t bytes[MB_RECORD_BYTES], own[3] = {0, 0, 0};
     uint32_t answer;
-    mb_internal_pack(record, bytes);
+    mb_internal_to_bytes(record, bytes);
     answer = mb_raw_run(mb_internal_read(program->page, program->page_length, &own[0]), program->page_length,
                         program->never_return, program->profile,
                         mb_internal_written(ram, ram_length, &own[1]), ram_length,
                         mb_internal_read(setting->external, setting->external_length, &own[2]),
                         setting->external_length, bytes, sizeof bytes, budget,
                         &stopped->kind, &stopped->value, &stopped->literal, &stopped->position, &stopped->steps);
-    mb_internal_unpack(bytes, record);
+    mb_internal_from_bytes(bytes, record);
     return answer;
 }
 
@@ -508,6 +552,8 @@ static inline const char *mb_refusal_words(uint32_t number)
     case MB_REFUSED_FORM_LENGTH: return "stored form, or the room lent for it, is not 44 bytes";
     case MB_REFUSED_FORM_RANGE: return "stored or given record is out of range";
     case MB_REFUSED_NO_SUCH_BUNDLE: return "asked bundle is not in the page";
+    case MB_REFUSED_NOT_GROUPED: return "short form is not in shortest groups, is cut off or is followed by bytes";
+    case MB_REFUSED_ROOM_TOO_SMALL: return "room for the written form is too small";
     case MB_REFUSED_UNKNOWN_PROFILE: return "unknown profile";
     case MB_REFUSED_SP_BOUNDS: return "SP is below 0x10000 or above 0x18000";
     case MB_REFUSED_SP_ALIGNMENT: return "SP is no multiple of 4";
@@ -518,7 +564,8 @@ static inline const char *mb_refusal_words(uint32_t number)
     }
 }
 
-/* The field of a record that begins at a position; of a refusal's, where it isn't 0. */
+/* The field of a record that begins at a position; of a refusal's, where it is 7's or
+ * isn't 0. */
 static inline const char *mb_field_words(uint32_t position)
 {
     switch (position) {

@@ -15,7 +15,8 @@ trap 'rm -rf "$scratch"' EXIT
 as_c() {
     sed 's,//.*,,' "$2" | awk -v opening="$1" '
         BEGIN {
-            c["u32"] = "uint32_t "; c["u64"] = "uint64_t "; c["&mut u32"] = c["*mut u32"] = "uint32_t *"; c["usize"] = "size_t "
+            c["u32"] = "uint32_t "; c["u64"] = "uint64_t "; c["&mut u32"] = c["*mut u32"] = "uint32_t *"
+            c["usize"] = "size_t "; c["&mut usize"] = c["*mut usize"] = "size_t *"
             c["&[u8]"] = c["*const u8"] = "const uint8_t *"; c["&mut [u8]"] = c["*mut u8"] = "uint8_t *"
         }
         function parameter(text,    name, type) {
@@ -97,6 +98,8 @@ found held_header "$header" 's/uint32_t profile, uint32_t \*count/uint32_t *coun
 found held_header "$header" 's/^uint32_t mb_raw_fresh/uint8_t mb_raw_fresh/'
 found held_header "$header" 's/uint32_t \*position, uint32_t \*steps/uint32_t *steps, uint32_t *position/'
 found held_header "$header" 's/size_t room_length, uint32_t \*position/size_t room_length/'
+found held_header "$header" 's/size_t \*length/uint32_t *length/'
+found held_header "$header" 's/size_t \*length, uint32_t \*position/uint32_t *position, size_t *length/'
 found held_header "$header" '/mb_raw_version/d'
 found held_declarations "$declarations" 's/page: \*const u8/page: *mut u8/'
 found held_declarations "$declarations" 's/value: \*mut u32/values: *mut u32/; s/literal: \*mut u32/value: *mut u32/; s/values: \*mut u32/literal: *mut u32/'
@@ -107,4 +110,5 @@ found held_declarations "$declarations" 's/profile: u32/which: u32/; s/ k: u32/ 
 found held_declarations "$declarations" 's/page_length: usize/page_length: u32/'
 found held_declarations "$declarations" '/mb_raw_run/,/-> u32/{ s/position: /positions: /; s/steps: /position: /; s/positions: /steps: /; }'
 found held_declarations "$declarations" '/mb_raw_load/,/-> u32/{ /position: /d; }'
-echo "header.sh: $(wc -l <"$scratch/exported") declarations held to the source in C and in Rust; twenty-one wrong ones found"
+found held_declarations "$declarations" 's/ length: \*mut usize/ length: *mut u32/'
+echo "header.sh: $(wc -l <"$scratch/exported") declarations held to the source in C and in Rust; twenty-four wrong ones found"

@@ -17,11 +17,12 @@ struct areas {
     uint8_t ram[MB_RAM_BYTES + 1];
     uint8_t external[512];
     uint8_t room[MB_RECORD_BYTES + 1];
+    uint8_t packed[80]; /* thirteen numbers of six groups, and more */
 };
 
 static struct areas lent, before;
 static mb_record record, record_before;
-static size_t page_length, ram_length, external_length, room_length;
+static size_t page_length, ram_length, external_length, room_length, packed_length;
 
 /* The syscalls that never return and the profile, and those that a test begins with. */
 static uint64_t never_return, never_return_at_first;
@@ -93,6 +94,7 @@ static void begin(void)
     ram_length = MB_RAM_BYTES;
     external_length = 0;
     room_length = MB_RECORD_BYTES;
+    packed_length = MB_SHORT_MOST;
     never_return = never_return_at_first;
     profile = profile_at_first;
     record = fresh_by_hand();
@@ -184,7 +186,7 @@ static void check_refused(int line, uint32_t code, uint32_t position)
     keep();
     check_refusal(line, run(10), code, position);
     check_refusal(line, step(), code, position);
-    mb_internal_pack(&record, bytes);
+    mb_internal_to_bytes(&record, bytes);
     check_bytes_refused(line, bytes, sizeof bytes, code, position);
 }
 
@@ -232,7 +234,7 @@ static void check_store(int line, uint32_t code, uint32_t position)
     uint8_t bytes[MB_RECORD_BYTES], given[sizeof lent.room], stored[sizeof lent.room];
     mb_refused refused = {STALE, STALE};
     memcpy(given, lent.room, sizeof given);
-    mb_internal_pack(&record, bytes);
+    mb_internal_to_bytes(&record, bytes);
     check_raw_store(line, bytes, sizeof bytes, code, position);
     memcpy(stored, lent.room, sizeof stored);
     check_room(line, given, stored, code, NULL);
@@ -254,6 +256,80 @@ static void check_load(int line, uint32_t code, uint32_t position)
 
 #define STORES(code) check_store(__LINE__, (code), 0)
 #define LOADS(code) check_load(__LINE__, (code), 0)
+
+/* The only change that a pack is to make: so many bytes of a form at the start of the room for it. */
+static void expect_packed(const uint8_t *form, size_t length)
+{
+    memset(lent.packed, 0x5A, sizeof lent.packed);
+    keep();
+    if (length > 0)
+        memcpy(before.packed, form, length);
+}
+
+static void check_packed(int line, uint32_t answer, uint32_t code, size_t told, size_t length)
+{
+    check(line, "pack", answer, code);
+    check(line, "length", told == length, true);
+    check(line, "changed by the pack, or not written", changed(), 0);
+}
+
+static void check_header_pack(int line, uint32_t code, const uint8_t *form, size_t length, mb_refused *refused)
+{
+    size_t told = SIZE_MAX;
+    uint32_t answer;
+    expect_packed(form, length);
+    answer = mb_pack(lent.room, room_length, lent.packed, packed_length, &told, refused);
+    check_packed(line, answer, code, told, length);
+}
+
+/* A pack of what stands in the room of a stored form, as the store is checked. Refused, it comes to length 0. */
+static void check_pack(int line, uint32_t code, uint32_t position, const uint8_t *form, size_t length)
+{
+    mb_refused refused = {STALE, STALE};
+    uint32_t answer, position_told = STALE;
+    size_t told = SIZE_MAX;
+    expect_packed(form, length);
+    answer = mb_raw_pack(lent.room, room_length, lent.packed, packed_length, &told, &position_told);
+    check_packed(line, answer, code, told, length);
+    check(line, "position of the proved pack", position_told, position);
+    check_header_pack(line, code, form, length, NULL);
+    check_header_pack(line, code, form, length, &refused);
+    check(line, "what the pack says", refused.number, code);
+    check(line, "where, by the pack", refused.position, position);
+}
+
+/* The only change that an unpack is to make: a stored form in the room, or none. */
+static void expect_unpacked(const uint8_t *stored)
+{
+    memset(lent.room, 0x5A, sizeof lent.room);
+    keep();
+    if (stored != NULL)
+        memcpy(before.room, stored, MB_RECORD_BYTES);
+}
+
+static void check_header_unpack(int line, uint32_t code, const uint8_t *stored, mb_refused *refused)
+{
+    expect_unpacked(stored);
+    check(line, "unpack", mb_unpack(lent.packed, packed_length, lent.room, room_length, refused), code);
+    check(line, "changed by the unpack, or not written", changed(), 0);
+}
+
+static void check_unpack(int line, uint32_t code, uint32_t position, const uint8_t *stored)
+{
+    mb_refused refused = {STALE, STALE};
+    uint32_t told = STALE;
+    expect_unpacked(stored);
+    check(line, "proved unpack", mb_raw_unpack(lent.packed, packed_length, lent.room, room_length, &told), code);
+    check(line, "position of the proved unpack", told, position);
+    check(line, "changed by the proved unpack, or not written", changed(), 0);
+    check_header_unpack(line, code, stored, NULL);
+    check_header_unpack(line, code, stored, &refused);
+    check(line, "what the unpack says", refused.number, code);
+    check(line, "where, by the unpack", refused.position, position);
+}
+
+#define NOT_PACKED(code) check_pack(__LINE__, (code), 0, NULL, 0)
+#define NOT_UNPACKED(code) check_unpack(__LINE__, (code), 0, NULL)
 
 /* ---- initialisers and version */
 
@@ -508,18 +584,28 @@ static bool together(damage one, damage other)
 
 static uint32_t lower(uint32_t one, uint32_t other) { return one < other ? one : other; }
 
-/* The record isn't stored, and its bytes are not read back, with flags above 15 neither. */
+/* The stored form isn't packed, whatever room there is: 7 before 10. */
+static void check_not_packed(int line, uint32_t position)
+{
+    for (packed_length = 0; packed_length <= MB_SHORT_MOST; packed_length += MB_SHORT_MOST)
+        check_pack(line, MB_REFUSED_FORM_RANGE, position, NULL, 0);
+}
+
+/* The record isn't stored, and its bytes are not read back or packed, with flags above 15 neither. */
 static void check_out_of_range(int line, uint32_t position)
 {
     keep();
     check_store(line, MB_REFUSED_FORM_RANGE, position);
     check(line, "changed by the store", changed(), 0);
-    mb_internal_pack(&record, lent.room);
+    mb_internal_to_bytes(&record, lent.room);
     keep();
     check_load(line, MB_REFUSED_FORM_RANGE, position);
     lent.room[MB_AT_FLAGS] = before.room[MB_AT_FLAGS] = 16;
     check_load(line, MB_REFUSED_FORM_RANGE, position);
     check(line, "changed by the load", changed(), 0);
+    check_not_packed(line, position);
+    lent.room[MB_AT_FLAGS] = 0;
+    check_not_packed(line, position);
 }
 
 static void out_of_range(void)
@@ -559,6 +645,7 @@ static void not_read_back(void)
         keep();
         check_load(__LINE__, MB_REFUSED_FORM_RANGE, changes[i][2]);
         CHECK(changed(), 0);
+        check_not_packed(__LINE__, changes[i][2]);
     }
 }
 
@@ -577,6 +664,336 @@ static void form_length(void)
         keep();
         STORES(MB_REFUSED_FORM_LENGTH);
         CHECK(changed(), 0);
+    }
+}
+
+/* ---- the short form */
+
+static const uint8_t fresh_bytes[MB_RECORD_BYTES] = {[MB_AT_SP + 1] = 0x80, [MB_AT_SP + 2] = 0x01};
+static const uint8_t fresh_short[MB_SHORT_LEAST] = {0};
+
+static const uint8_t full_short[] = {
+    0x81, 0x84, 0x8C, 0x20, 0x91, 0xA4, 0xCC, 0xA0, 0x01, 0xA1, 0xC4, 0x8C, 0xA1, 0x02, 0xB1, 0xE4, 0xCC, 0xA1, 0x03,
+    0xC1, 0x84, 0x8D, 0xA2, 0x04, 0xD1, 0xA4, 0xCD, 0xA2, 0x05, 0xE1, 0xC4, 0x8D, 0xA3, 0x06, 0xFF, 0xFF, 0xFF, 0xFF, 0x0F,
+    0x80, 0x40, /* 8,192 words from SP to 0x18000 */
+    0x01, 0xFF, 0xFF, 0x3F, 0x7F, 0x0F
+};
+
+/* A record of the longest short form: every number has as many groups as it can have. */
+static const uint8_t longest_bytes[MB_RECORD_BYTES] = {
+    0xFF, 0xFF, 0xFF, 0xFF, 0x00, 0x00, 0x00, 0x10, 0x00, 0x00, 0x00, 0x80, 0x78, 0x56, 0x34, 0x12,
+    0xFF, 0xFF, 0xFF, 0x1F, 0xEF, 0xCD, 0xAB, 0x89, 0xFE, 0xFF, 0xFF, 0xFF, 0x10, 0x32, 0x54, 0x76,
+    0x00, 0x00, 0x01, 0x00, /* SP 0x10000 */
+    0x02, 0xFF, 0xFF, 0xFF, 0x00, /* external offset 0xFFFFFF */
+    0x7F, 0x00, 0x0F
+};
+static const uint8_t longest_short[MB_SHORT_MOST] = {
+    0xFF, 0xFF, 0xFF, 0xFF, 0x0F, 0x80, 0x80, 0x80, 0x80, 0x01, 0x80, 0x80, 0x80, 0x80, 0x08, 0xF8, 0xAC, 0xD1, 0x91, 0x01,
+    0xFF, 0xFF, 0xFF, 0xFF, 0x01, 0xEF, 0x9B, 0xAF, 0xCD, 0x08, 0xFE, 0xFF, 0xFF, 0xFF, 0x0F, 0x90, 0xE4, 0xD0, 0xB2, 0x07,
+    0x80, 0x40, 0x02, 0xFF, 0xFF, 0xFF, 0x07, 0x7F, 0x0F
+};
+
+static const struct { const uint8_t *stored, *packed; size_t length; } forms[] = {
+    {fresh_bytes, fresh_short, sizeof fresh_short}, {full_bytes, full_short, sizeof full_short},
+    {longest_bytes, longest_short, sizeof longest_short},
+};
+
+enum { FORMS = sizeof forms / sizeof forms[0] };
+
+/* The 44 bytes give the short form, what stands there then gives the 44 bytes, and these the short form again. */
+static void check_both_ways(int line, const uint8_t *stored, const uint8_t *form, size_t length)
+{
+    memcpy(lent.room, stored, MB_RECORD_BYTES);
+    packed_length = length;
+    check_pack(line, MB_ACCEPTED, 0, form, length);
+    check_unpack(line, MB_ACCEPTED, 0, stored);
+    check_pack(line, MB_ACCEPTED, 0, form, length);
+}
+
+static void short_forms(void)
+{
+    for (size_t i = 0; i < FORMS; i++) {
+        begin();
+        check_both_ways(__LINE__, forms[i].stored, forms[i].packed, forms[i].length);
+    }
+}
+
+/* Rooms of every length: it is by this record's form that one is too small, and what is past the form stays. */
+static void rooms_of_short_forms(void)
+{
+    for (size_t i = 0; i < FORMS; i++) {
+        begin();
+        memcpy(lent.room, forms[i].stored, MB_RECORD_BYTES);
+        for (packed_length = 0; packed_length < forms[i].length; packed_length++)
+            NOT_PACKED(MB_REFUSED_ROOM_TOO_SMALL);
+        for (; packed_length <= sizeof lent.packed; packed_length++)
+            check_pack(__LINE__, MB_ACCEPTED, 0, forms[i].packed, forms[i].length);
+    }
+}
+
+/* A short form number by number, each in its groups. The first eight are r0 to r7. */
+typedef struct { uint8_t length, bytes[6]; } groups;
+
+enum { SP = 8, BASE_KIND, BASE_OFFSET, PLACE, FLAGS, NUMBERS };
+
+static groups numbers[NUMBERS];
+
+static uint32_t position_of(size_t which)
+{
+    const uint32_t behind_sp[] = {MB_AT_BASE_KIND, MB_AT_BASE_OFFSET, MB_AT_PLACE, MB_AT_FLAGS};
+    return which <= SP ? (uint32_t)(4 * which) : behind_sp[which - BASE_KIND];
+}
+
+/* The fresh record's, in which no offset stands. */
+static void begin_numbers(void)
+{
+    begin();
+    for (size_t i = 0; i < NUMBERS; i++)
+        numbers[i] = (groups){1, {0}};
+    numbers[BASE_OFFSET].length = 0;
+}
+
+/* One of them; with a kind an offset, and with an offset the kind that it is of. */
+static void put_number(size_t which, uint8_t kind, groups number)
+{
+    if (which == BASE_KIND)
+        numbers[BASE_OFFSET] = (groups){1, {0}};
+    if (which == BASE_OFFSET)
+        numbers[BASE_KIND] = (groups){1, {kind}};
+    numbers[which] = number;
+}
+
+static void join_numbers(void)
+{
+    memset(lent.packed, 0x5A, sizeof lent.packed);
+    packed_length = 0;
+    for (size_t i = 0; i < NUMBERS; i++) {
+        memcpy(lent.packed + packed_length, numbers[i].bytes, numbers[i].length);
+        packed_length += numbers[i].length;
+    }
+}
+
+/* The numbers are those of the record. */
+static void check_numbers(int line)
+{
+    uint8_t stored[MB_RECORD_BYTES], form[MB_SHORT_MOST];
+    mb_internal_to_bytes(&record, stored);
+    join_numbers();
+    memcpy(form, lent.packed, packed_length);
+    check_both_ways(line, stored, form, packed_length);
+}
+
+/* Registers on both sides of each group more. */
+static void short_registers(void)
+{
+    const struct { uint32_t value; groups number; } registers[] = {
+        {0, {1, {0x00}}}, {127, {1, {0x7F}}}, {128, {2, {0x80, 0x01}}},
+        {0x3FFF, {2, {0xFF, 0x7F}}}, {0x4000, {3, {0x80, 0x80, 0x01}}},
+        {0x1FFFFF, {3, {0xFF, 0xFF, 0x7F}}}, {0x200000, {4, {0x80, 0x80, 0x80, 0x01}}},
+        {0xFFFFFFF, {4, {0xFF, 0xFF, 0xFF, 0x7F}}}, {0x10000000, {5, {0x80, 0x80, 0x80, 0x80, 0x01}}},
+        {UINT32_MAX, {5, {0xFF, 0xFF, 0xFF, 0xFF, 0x0F}}},
+    };
+    for (size_t i = 0; i < 8 * sizeof registers / sizeof registers[0]; i++) {
+        begin_numbers();
+        record.r[i % 8] = registers[i / 8].value;
+        put_number(i % 8, 0, registers[i / 8].number);
+        check_numbers(__LINE__);
+    }
+}
+
+static void short_sps(void)
+{
+    const struct { uint32_t sp; groups words; } sps[] = {
+        {0x17FFC, {1, {0x01}}}, {0x17E04, {1, {0x7F}}}, {0x17E00, {2, {0x80, 0x01}}},
+        {0x10004, {2, {0xFF, 0x3F}}}, {0x10000, {2, {0x80, 0x40}}},
+    };
+    for (size_t i = 0; i < sizeof sps / sizeof sps[0]; i++) {
+        begin_numbers();
+        record.sp = sps[i].sp;
+        put_number(SP, 0, sps[i].words);
+        check_numbers(__LINE__);
+    }
+}
+
+static void short_bases(void)
+{
+    const struct { mb_base base; groups offset; } bases[] = {
+        {{MB_BASE_RAM, 0}, {1, {0x00}}}, {{MB_BASE_RAM, 0xFFFFF}, {3, {0xFF, 0xFF, 0x3F}}},
+        {{MB_BASE_EXTERNAL, 0}, {1, {0x00}}}, {{MB_BASE_EXTERNAL, 0x100000}, {3, {0x80, 0x80, 0x40}}},
+        {{MB_BASE_EXTERNAL, 0xFFFFFF}, {4, {0xFF, 0xFF, 0xFF, 0x07}}},
+    };
+    for (size_t i = 0; i < sizeof bases / sizeof bases[0]; i++) {
+        begin_numbers();
+        record.base = bases[i].base;
+        put_number(BASE_OFFSET, bases[i].base.kind, bases[i].offset);
+        check_numbers(__LINE__);
+    }
+}
+
+/* 2^32, of which 32 bits are 0, and the most that five groups hold. */
+#define PAST_A_WORD {5, {0x80, 0x80, 0x80, 0x80, 0x10}}
+#define MOST {5, {0xFF, 0xFF, 0xFF, 0xFF, 0x7F}}
+
+/* A number each that its field can't have, and the kind that an offset is of. */
+typedef struct { size_t which; uint8_t kind; groups number; } excess;
+
+static const excess excesses[] = {
+    {0, 0, PAST_A_WORD}, {0, 0, MOST}, {1, 0, PAST_A_WORD}, {2, 0, MOST}, {3, 0, PAST_A_WORD}, {4, 0, MOST},
+    {5, 0, PAST_A_WORD}, {6, 0, MOST}, {7, 0, PAST_A_WORD}, {7, 0, MOST},
+    {SP, 0, {2, {0x81, 0x40}}}, /* 8,193 words */
+    {SP, 0, {5, {0x80, 0x80, 0x80, 0x80, 0x04}}}, /* 2^30 words, of whose bytes 32 bits are 0 */
+    {SP, 0, PAST_A_WORD}, {SP, 0, MOST},
+    {BASE_KIND, 0, {1, {3}}}, {BASE_KIND, 0, {2, {0x80, 0x02}}}, /* 256, of which a byte is 0 */
+    {BASE_KIND, 0, PAST_A_WORD}, {BASE_KIND, 0, MOST},
+    {BASE_OFFSET, MB_BASE_RAM, {3, {0x80, 0x80, 0x40}}}, {BASE_OFFSET, MB_BASE_RAM, PAST_A_WORD},
+    {BASE_OFFSET, MB_BASE_EXTERNAL, {4, {0x80, 0x80, 0x80, 0x08}}}, {BASE_OFFSET, MB_BASE_EXTERNAL, PAST_A_WORD},
+    {PLACE, 0, {2, {0x80, 0x01}}}, {PLACE, 0, {3, {0x80, 0x80, 0x04}}}, /* 65,536 */
+    {PLACE, 0, PAST_A_WORD},
+    {FLAGS, 0, {1, {16}}}, {FLAGS, 0, {2, {0x80, 0x02}}}, {FLAGS, 0, PAST_A_WORD},
+};
+
+enum { EXCESSES = sizeof excesses / sizeof excesses[0] };
+
+static bool of_base(size_t which) { return which == BASE_KIND || which == BASE_OFFSET; }
+
+/* Whether a form can have both put: they are two numbers, and not both of the base, which is put whole. */
+static bool both_put(size_t one, size_t other) { return one != other && !(of_base(one) && of_base(other)); }
+
+static void begin_excess(excess of)
+{
+    begin_numbers();
+    put_number(of.which, of.kind, of.number);
+}
+
+/* Told by the position in the 44 bytes, r0's too. */
+static void not_unpacked(void)
+{
+    for (size_t i = 0; i < EXCESSES; i++) {
+        begin_excess(excesses[i]);
+        join_numbers();
+        check_unpack(__LINE__, MB_REFUSED_FORM_RANGE, position_of(excesses[i].which), NULL);
+    }
+}
+
+/* The first field decides. */
+static void not_unpacked_twice(void)
+{
+    for (size_t i = 0; i < EXCESSES * EXCESSES; i++) {
+        excess one = excesses[i / EXCESSES], other = excesses[i % EXCESSES];
+        if (!both_put(one.which, other.which))
+            continue;
+        begin_excess(one);
+        put_number(other.which, other.kind, other.number);
+        join_numbers();
+        check_unpack(__LINE__, MB_REFUSED_FORM_RANGE, lower(position_of(one.which), position_of(other.which)), NULL);
+    }
+}
+
+/* Thirteen numbers of five groups, 65 bytes, are the most that is read. */
+static void most_groups(void)
+{
+    begin_numbers();
+    for (size_t i = 0; i < NUMBERS; i++)
+        numbers[i] = (groups)MOST;
+    for (size_t i = 0; i < NUMBERS; i++) {
+        join_numbers();
+        if (i == 0)
+            CHECK((uint32_t)packed_length, 65);
+        check_unpack(__LINE__, MB_REFUSED_FORM_RANGE, position_of(i), NULL);
+        numbers[i] = (groups){1, {i == BASE_KIND ? MB_BASE_RAM : 0}};
+    }
+}
+
+/* Groups that are no number: a last one of 0 that isn't the first, or a sixth. */
+static const groups ungrouped[] = {
+    {2, {0x80, 0x00}}, {2, {0xFF, 0x00}}, {3, {0x80, 0x80, 0x00}}, {3, {0x81, 0x80, 0x00}}, {5, {0xFF, 0xFF, 0xFF, 0xFF, 0x00}},
+    {6, {0x80, 0x80, 0x80, 0x80, 0x80, 0x00}}, {6, {0x80, 0x80, 0x80, 0x80, 0x80, 0x01}}, {6, {0xFF, 0xFF, 0xFF, 0xFF, 0xFF, 0x7F}},
+};
+
+enum { UNGROUPED = sizeof ungrouped / sizeof ungrouped[0] };
+
+static void not_grouped(void)
+{
+    for (size_t i = 0; i < NUMBERS * UNGROUPED; i++) {
+        begin_numbers();
+        put_number(i / UNGROUPED, MB_BASE_RAM, ungrouped[i % UNGROUPED]);
+        join_numbers();
+        NOT_UNPACKED(MB_REFUSED_NOT_GROUPED);
+    }
+}
+
+/* 9 before 7, whichever of the two numbers stands first. */
+static void not_grouped_and_excess(void)
+{
+    for (size_t i = 0; i < EXCESSES * NUMBERS; i++) {
+        excess of = excesses[i / NUMBERS];
+        size_t which = i % NUMBERS;
+        if (!both_put(of.which, which))
+            continue;
+        begin_excess(of);
+        put_number(which, MB_BASE_RAM, ungrouped[i % UNGROUPED]);
+        join_numbers();
+        NOT_UNPACKED(MB_REFUSED_NOT_GROUPED);
+    }
+}
+
+/* What has another length than its numbers: cut off at every byte, an empty input too, or followed by bytes. */
+static void check_other_lengths(int line, size_t length)
+{
+    for (packed_length = 0; packed_length <= sizeof lent.packed; packed_length++)
+        if (packed_length != length)
+            check_unpack(line, MB_REFUSED_NOT_GROUPED, 0, NULL);
+}
+
+static void cut_off_or_followed(void)
+{
+    for (size_t i = 0; i < FORMS; i++) {
+        begin();
+        memcpy(lent.packed, forms[i].packed, forms[i].length);
+        check_other_lengths(__LINE__, forms[i].length);
+        memset(lent.packed + forms[i].length, 0, sizeof lent.packed - forms[i].length);
+        check_other_lengths(__LINE__, forms[i].length);
+    }
+    for (size_t i = 0; i < EXCESSES; i++) {
+        begin_excess(excesses[i]);
+        join_numbers();
+        check_other_lengths(__LINE__, packed_length);
+    }
+}
+
+/* An offset with none follows; any other kind, known or not, has one, without which the form is cut off. */
+static void offsets_by_kind(void)
+{
+    begin_numbers();
+    numbers[BASE_OFFSET].length = 1;
+    join_numbers();
+    NOT_UNPACKED(MB_REFUSED_NOT_GROUPED);
+    for (uint8_t kind = 1; kind < 128; kind++) {
+        begin_numbers();
+        numbers[BASE_KIND].bytes[0] = kind;
+        join_numbers();
+        NOT_UNPACKED(MB_REFUSED_NOT_GROUPED);
+    }
+}
+
+/* 6 before 7 and 10, and before 9 and 7. */
+static void lengths_and_short_forms(void)
+{
+    const size_t lengths[] = {0, 43, 45};
+    for (size_t i = 0; i < sizeof lengths / sizeof lengths[0]; i++) {
+        begin_excess(excesses[0]);
+        room_length = lengths[i];
+        memcpy(lent.room, fresh_bytes, sizeof fresh_bytes);
+        NOT_PACKED(MB_REFUSED_FORM_LENGTH);
+        memset(lent.room, 0xFF, sizeof lent.room);
+        packed_length = 0;
+        NOT_PACKED(MB_REFUSED_FORM_LENGTH);
+        NOT_UNPACKED(MB_REFUSED_FORM_LENGTH); /* cut off */
+        join_numbers();
+        NOT_UNPACKED(MB_REFUSED_FORM_LENGTH); /* out of range */
+        memcpy(lent.packed, fresh_short, sizeof fresh_short);
+        packed_length = sizeof fresh_short;
+        NOT_UNPACKED(MB_REFUSED_FORM_LENGTH);
     }
 }
 
@@ -625,7 +1042,7 @@ static void raw_flags_and_fields(void)
         bool no_record = damages[i].refusal == MB_REFUSED_NO_RECORD;
         begin();
         put_damage(damages[i]);
-        mb_internal_pack(&record, bytes);
+        mb_internal_to_bytes(&record, bytes);
         bytes[43] = 255;
         keep();
         check_raw_store(__LINE__, bytes, sizeof bytes, MB_REFUSED_FORM_RANGE, damages[i].position);
@@ -1146,7 +1563,7 @@ static void unknown_profiles_of_runs(void)
     }
 }
 
-/* 18 before 255 of bytes that no mb_record packs to. */
+/* 18 before 255 of bytes that no mb_record has. */
 static void unknown_profiles_of_bytes(void)
 {
     uint8_t bytes[MB_RECORD_BYTES];
@@ -1202,9 +1619,17 @@ static void null_in_runs(void)
 
 static void null_rooms(void)
 {
+    size_t length = SIZE_MAX;
     begin();
     CHECK(mb_store(&record, NULL, 0, NULL), MB_REFUSED_FORM_LENGTH);
     CHECK(mb_load(NULL, 0, &record, NULL), MB_REFUSED_FORM_LENGTH);
+    CHECK(mb_pack(NULL, 0, lent.packed, packed_length, &length, NULL), MB_REFUSED_FORM_LENGTH);
+    CHECK(mb_pack(NULL, 0, NULL, 0, &length, NULL), MB_REFUSED_FORM_LENGTH);
+    CHECK(mb_pack(fresh_bytes, sizeof fresh_bytes, NULL, 0, &length, NULL), MB_REFUSED_ROOM_TOO_SMALL);
+    CHECK(length == 0, true);
+    CHECK(mb_unpack(NULL, 0, lent.room, room_length, NULL), MB_REFUSED_NOT_GROUPED);
+    CHECK(mb_unpack(NULL, 0, NULL, 0, NULL), MB_REFUSED_FORM_LENGTH);
+    CHECK(mb_unpack(fresh_short, sizeof fresh_short, NULL, 0, NULL), MB_REFUSED_FORM_LENGTH);
 }
 
 /* ---- exits */
@@ -1271,9 +1696,11 @@ static const test of_the_full_profile[] = {
 
 static const test of_both_profiles[] = {
     initialisers, count_of_a_full_page, count_refused, bundles, bases, base_at_the_end,
-    stored_and_read_back, out_of_range, out_of_range_twice, not_read_back, form_length, raw_lengths, raw_flags,
-    raw_flags_and_fields, printed_run, budget_zero, slices, other_stops, blt, refused_lengths, refused_records,
-    records_refused_twice, fit_records, order,
+    stored_and_read_back, out_of_range, out_of_range_twice, not_read_back, form_length,
+    short_forms, rooms_of_short_forms, short_registers, short_sps, short_bases, not_unpacked, not_unpacked_twice, most_groups,
+    not_grouped, not_grouped_and_excess, cut_off_or_followed, offsets_by_kind, lengths_and_short_forms,
+    raw_lengths, raw_flags, raw_flags_and_fields, printed_run, budget_zero, slices, other_stops, blt,
+    refused_lengths, refused_records, records_refused_twice, fit_records, order,
     counts_of_syscalls, places_of_syscalls, places_behind_syscalls, other_services,
     counts_of_profiles, bundles_of_profiles, places_of_profiles,
     unknown_profiles_of_pages, unknown_profiles_of_runs, unknown_profiles_of_bytes,

@@ -16,10 +16,10 @@ gcc -std=c99 "@$root/tests/warnings" -o host "$root/examples/host.c" "${flags[@]
 # The version by the preprocessor, whereas tools/install reads the header's lines.
 printf '#include <marshbodkin.h>\nMB_VERSION_MAJOR MB_VERSION_MINOR MB_VERSION_PATCH\n' |
   gcc -E -P -Iprefix/include - | tail -n 1 | tr ' ' . | diff - <(pkg-config --modversion marshbodkin)
-for program in lister runner; do
+for program in lister runner pack unpack; do
   "prefix/bin/marshbodkin-$program" <"$root/crates/$program/stdin" | diff - "$root/crates/$program/stdout"
 done
-find prefix -type f | sort | diff - <(printf 'prefix/%s\n' bin/marshbodkin-lister bin/marshbodkin-runner \
+find prefix -type f | sort | diff - <(printf 'prefix/%s\n' bin/marshbodkin-{lister,pack,runner,unpack} \
   include/marshbodkin.h lib/libmarshbodkin.a lib/pkgconfig/marshbodkin.pc)
 
 # fails STATUS TEXT WORDS...: tools/install ends with the status, says the text on standard error and nothing else.

@@ -1,22 +1,29 @@
 /* The header's calls with null areas of length 0, over proved calls of this file's own instead of the archive's: what they are
  * lent is never null and never overlaps, which the archive wouldn't show. The set of syscalls and the profile are the program's,
- * whole, and the position that comes back is the proved call's. */
+ * whole, and the position and the length that come back are the proved call's. Areas with bytes are lent as they are, and
+ * stay where the proved call doesn't write. */
 #include "check.h"
 #include "marshbodkin.h"
+
+#include <string.h>
 
 /* The syscalls that never return and the profile, as the program has them. */
 #define NEVER_RETURN UINT64_C(0x8000000000000001)
 #define PROFILE UINT32_C(0x80000001)
 
-/* Positions that the proved calls write. */
-enum { STORE_POSITION = 71, LOAD_POSITION = 72, RUN_POSITION = 73 };
+/* Positions, and a length, that the proved calls write; answers of two. */
+enum { STORE_POSITION = 71, LOAD_POSITION = 72, RUN_POSITION = 73, PACK_POSITION = 74, UNPACK_POSITION = 75 };
+#define PACKED_LENGTH (SIZE_MAX - 1)
+enum { PACK_ANSWER = 98, UNPACK_ANSWER = 97 };
 
-/* The areas of one call, all of length 0. */
+/* The areas of one call, and how many have another length than 0. */
 static const uint8_t *areas[3];
+static size_t lengths[3];
 static uint32_t areas_lent, other_lengths, other_sets, other_profiles;
 
 static void take(const uint8_t *area, size_t length)
 {
+    lengths[areas_lent] = length;
     areas[areas_lent++] = area;
     other_lengths += length != 0;
 }
@@ -68,6 +75,25 @@ uint32_t mb_raw_load(const uint8_t *stored, size_t stored_length, uint8_t *recor
     return mb_raw_fresh(record, record_length);
 }
 
+/* This and the next write nothing in the room. */
+uint32_t mb_raw_pack(const uint8_t *stored, size_t stored_length, uint8_t *room, size_t room_length, size_t *length,
+                     uint32_t *position)
+{
+    take(stored, stored_length);
+    take(room, room_length);
+    *length = PACKED_LENGTH;
+    *position = PACK_POSITION;
+    return PACK_ANSWER;
+}
+
+uint32_t mb_raw_unpack(const uint8_t *packed, size_t packed_length, uint8_t *room, size_t room_length, uint32_t *position)
+{
+    take(packed, packed_length);
+    take(room, room_length);
+    *position = UNPACK_POSITION;
+    return UNPACK_ANSWER;
+}
+
 /* It answers the budget, which for a step is 1. */
 uint32_t mb_raw_run(const uint8_t *page, size_t page_length, uint64_t never_return, uint32_t profile, uint8_t *ram,
                     size_t ram_length, const uint8_t *external, size_t external_length, uint8_t *record,
@@ -100,6 +126,54 @@ static void check_lent(int line, uint32_t answer, uint32_t expected, uint32_t nu
 
 #define LENT(answer, expected, number) check_lent(__LINE__, (answer), (expected), (number))
 
+static void pack_of_nothing(void)
+{
+    mb_refused refused = {99, 99};
+    size_t length = 0;
+    LENT(mb_pack(NULL, 0, NULL, 0, &length, NULL), PACK_ANSWER, 2);
+    CHECK(length == PACKED_LENGTH, true);
+    length = 0;
+    LENT(mb_pack(NULL, 0, NULL, 0, &length, &refused), PACK_ANSWER, 2);
+    CHECK(length == PACKED_LENGTH, true);
+    CHECK(refused.number, PACK_ANSWER);
+    CHECK(refused.position, PACK_POSITION);
+    LENT(mb_unpack(NULL, 0, NULL, 0, NULL), UNPACK_ANSWER, 2);
+    LENT(mb_unpack(NULL, 0, NULL, 0, &refused), UNPACK_ANSWER, 2);
+    CHECK(refused.number, UNPACK_ANSWER);
+    CHECK(refused.position, UNPACK_POSITION);
+}
+
+static uint8_t given[MB_RECORD_BYTES], room[MB_SHORT_MOST];
+
+/* The two areas of a call that was lent given and room, of these lengths. */
+static void check_given(int line, size_t given_length, size_t room_length)
+{
+    uint8_t given_before[sizeof given], room_before[sizeof room];
+    memset(given_before, 0x5A, sizeof given_before);
+    memset(room_before, 0xA5, sizeof room_before);
+    check(line, "areas", areas_lent, 2);
+    check(line, "given", areas[0] == given && lengths[0] == given_length, true);
+    check(line, "room", areas[1] == room && lengths[1] == room_length, true);
+    check(line, "given changed", memcmp(given, given_before, sizeof given) != 0, false);
+    check(line, "room changed", memcmp(room, room_before, sizeof room) != 0, false);
+    areas_lent = other_lengths = 0;
+}
+
+static void pack_of_bytes(void)
+{
+    size_t length;
+    memset(given, 0x5A, sizeof given);
+    memset(room, 0xA5, sizeof room);
+    mb_pack(given, sizeof given, room, 1, &length, NULL);
+    check_given(__LINE__, sizeof given, 1);
+    mb_pack(given, 1, room, sizeof room, &length, NULL);
+    check_given(__LINE__, 1, sizeof room);
+    mb_unpack(given, sizeof given, room, 1, NULL);
+    check_given(__LINE__, sizeof given, 1);
+    mb_unpack(given, 1, room, sizeof room, NULL);
+    check_given(__LINE__, 1, sizeof room);
+}
+
 int main(void)
 {
     mb_program program = mb_program_of(NULL, 0);
@@ -130,5 +204,7 @@ int main(void)
     stopped = mb_nothing_run();
     LENT(mb_step(&setting, NULL, 0, &record, &stopped), 1, 3);
     CHECK(stopped.position, RUN_POSITION);
+    pack_of_nothing();
+    pack_of_bytes();
     return outcome("lent.c");
 }

@@ -1,6 +1,6 @@
 #!/usr/bin/env bash
-# How the lister and the runner read and write, of which no contract can say much: input that comes in pieces, and words on
-# standard error where a read or a write fails. programs.sh [FOLDER], the folder of the programs.
+# How the four programs read and write, of which no contract can say much: input that comes in pieces, none, and more than a
+# program takes, and words on standard error where a read or a write fails. programs.sh [FOLDER], the folder of the programs.
 set -euo pipefail
 root=$(dirname "$0")/..
 folder=${1:-$root/target/bin}
@@ -21,33 +21,51 @@ wrote() {
 
 unread="standard input can't be read"
 unwritten="standard output can't be written"
-echo 'refused 1' >"$scratch/too_long"
 
-for program in lister runner; do
+# Pages of 256 bytes, and thirteen numbers of five groups.
+head -c 256 /dev/zero >"$scratch/page"
+printf '\xFF\xFF\xFF\xFF\x7F%.0s' {1..13} >"$scratch/numbers"
+
+for program in lister runner pack unpack; do
   run=$folder/$program
-  page=$root/crates/$program/stdin
+  input=$root/crates/$program/stdin
   answer=$root/crates/$program/stdout
 
-  "$run" <"$page" >"$out" 2>"$err"
-  wrote 'a page' "$answer"
-  "$run" < <(head -c 5 "$page" && sleep 0.1 && tail -c +6 "$page") >"$out" 2>"$err"
-  wrote 'a page in two pieces' "$answer"
-  "$run" < <(head -c 256 /dev/zero && sleep 0.1 && head -c 1 /dev/zero) >"$out" 2>"$err"
-  wrote 'a byte too many' "$scratch/too_long"
+  "$run" <"$input" >"$out" 2>"$err"
+  wrote 'its input' "$answer"
+  "$run" < <(head -c 5 "$input" && sleep 0.1 && tail -c +6 "$input") >"$out" 2>"$err"
+  wrote 'its input in two pieces' "$answer"
+
+  # What it prints for no input; the longest input with another answer than one byte more has; and what it prints for that.
+  case $program in
+    lister) empty='bundles 0 count 0' most=$scratch/page more='refused 1' ;;
+    runner) empty='refused 5' most=$scratch/page more='refused 1' ;;
+    pack) empty='refused 6' most=$input more='refused 6' ;;
+    unpack) empty='refused 9' most=$scratch/numbers more='refused 9' ;;
+  esac
+  "$run" </dev/null >"$out" 2>"$err"
+  wrote 'no input' <(echo "$empty")
+  "$run" < <(cat "$most" && sleep 0.1 && head -c 1 /dev/zero) >"$out" 2>"$err"
+  wrote 'a byte too many' <(echo "$more")
+  "$run" < <(cat "$most" && head -c 100000 /dev/zero) >"$out" 2>"$err"
+  wrote 'many bytes too many' <(echo "$more")
+  if "$run" <"$most" | diff -q - <(echo "$more") >/dev/null; then
+    echo "programs.sh: $program refuses as many bytes as it takes" >&2
+    exit 1
+  fi
 
   "$run" <&- >"$out" 2>"$err"
   wrote 'a closed input' /dev/null "$unread"
   "$run" </ >"$out" 2>"$err"
   wrote 'a directory as input' /dev/null "$unread"
-  "$run" <"$page" >&- 2>"$err"
+  "$run" <"$input" >&- 2>"$err"
   wrote 'a closed output' /dev/null "$unwritten"
-  "$run" <"$page" >/dev/full 2>"$err"
+  "$run" <"$input" >/dev/full 2>"$err"
   wrote 'a full device as output' /dev/null "$unwritten"
 done
 
 # A file that may have 1,024 bytes takes a part of a longer listing. What was written stays, and the rest is told.
 program=lister
-head -c 256 /dev/zero >"$scratch/page"
 "$folder/lister" <"$scratch/page" >"$scratch/whole"
 head -c 1024 "$scratch/whole" >"$scratch/part"
 (trap '' XFSZ && ulimit -f 1 && exec "$folder/lister" <"$scratch/page" >"$out" 2>"$err")

@@ -17,14 +17,23 @@ static void (*measured)(void);
 
 /* What is lent to the calls. */
 static uint8_t page[MB_PAGE_MOST], ram[MB_RAM_BYTES], external[256], record[MB_RECORD_BYTES], room[MB_RECORD_BYTES];
+static uint8_t packed[MB_SHORT_MOST];
 static uint8_t no_record[MB_RECORD_BYTES] = {[MB_AT_BASE_KIND] = 3};
+/* A record of the longest short form, with five groups for each register; and a number of six. */
+static const uint8_t longest[MB_RECORD_BYTES] = {
+    0xFF, 0xFF, 0xFF, 0xFF, 0xFF, 0xFF, 0xFF, 0xFF, 0xFF, 0xFF, 0xFF, 0xFF, 0xFF, 0xFF, 0xFF, 0xFF,
+    0xFF, 0xFF, 0xFF, 0xFF, 0xFF, 0xFF, 0xFF, 0xFF, 0xFF, 0xFF, 0xFF, 0xFF, 0xFF, 0xFF, 0xFF, 0xFF,
+    0x00, 0x00, 0x01, 0x00, 0x02, 0xFF, 0xFF, 0xFF, 0x00, 0x7F, 0x00, 0x0F,
+};
+static const uint8_t six_groups[] = {0xFF, 0xFF, 0xFF, 0xFF, 0xFF, 0x01};
 static size_t page_length;
 static const uint64_t never_return = 1; /* syscall 0, and not 1, which the page has */
 static uint32_t profile;
 static uint32_t code, refused, position, numbers[5];
+static size_t length;
 static mb_stopped stopped;
 
-/* ---- the calls, each of which leaves 0 in code; those that take a record are handed none first, which goes other ways */
+/* ---- the calls, each of which leaves 0 in code; those that can go other ways do so first, and add up what they refuse by */
 
 static void version(void) { code = mb_raw_version() - MB_VERSION; }
 static void count(void) { code = mb_raw_count(page, page_length, never_return, profile, &numbers[0]); }
@@ -33,14 +42,31 @@ static void fresh(void) { code = mb_raw_fresh(record, sizeof record); }
 
 static void store(void)
 {
-    refused = mb_raw_store(no_record, sizeof no_record, room, sizeof room, &position);
+    refused += mb_raw_store(no_record, sizeof no_record, room, sizeof room, &position);
     code = mb_raw_store(record, sizeof record, room, sizeof room, &position);
 }
 
 static void load(void)
 {
-    refused = mb_raw_load(no_record, sizeof no_record, record, sizeof record, &position);
+    refused += mb_raw_load(no_record, sizeof no_record, record, sizeof record, &position);
     code = mb_raw_load(room, sizeof room, record, sizeof record, &position);
+}
+
+static void pack(void)
+{
+    refused += mb_raw_pack(no_record, sizeof no_record, packed, sizeof packed, &length, &position);
+    refused += mb_raw_pack(longest, sizeof longest, packed, sizeof packed - 1, &length, &position);
+    code = mb_raw_pack(longest, sizeof longest, packed, sizeof packed, &length, &position);
+}
+
+/* What was packed, with its flags, in the last byte, out of range at first. */
+static void unpack(void)
+{
+    refused += mb_raw_unpack(six_groups, sizeof six_groups, room, sizeof room, &position);
+    packed[sizeof packed - 1] ^= 16;
+    refused += mb_raw_unpack(packed, sizeof packed, room, sizeof room, &position);
+    packed[sizeof packed - 1] ^= 16;
+    code = mb_raw_unpack(packed, sizeof packed, room, sizeof room, &position);
 }
 
 static void read_bundle(void)
@@ -72,7 +98,7 @@ static uint32_t step_from(uint8_t *bytes)
 /* The page goes on behind a direct syscall, up to its exit by a literal. */
 static void run(void)
 {
-    refused = run_from(no_record);
+    refused += run_from(no_record);
     fresh();
     do {
         code = run_from(record);
@@ -81,7 +107,7 @@ static void run(void)
 
 static void steps(void)
 {
-    refused = step_from(no_record);
+    refused += step_from(no_record);
     fresh();
     do {
         code = step_from(record);
@@ -159,7 +185,7 @@ static void lend(uint32_t in_profile)
     if (profile == MB_PROFILE_SMALL)
         leave_out_32_bits();
     stopped = mb_nothing_run();
-    refused = MB_ACCEPTED;
+    refused = 0;
 }
 
 /* ---- all calls */
@@ -188,7 +214,9 @@ int main(void)
         {"version", version, 0, 0}, {"count", count, 0, 0}, {"read_bundle", read_bundle, 0, 0},
         {"validate", validate, 0, 0}, {"fresh", fresh, 0, 0}, {"step", steps, 0x16, MB_REFUSED_NO_RECORD},
         {"run", run, 0x16, MB_REFUSED_NO_RECORD}, {"store", store, 0, MB_REFUSED_FORM_RANGE},
-        {"load", load, 0, MB_REFUSED_FORM_RANGE}, {"exit", decode_exit, 0, 0},
+        {"load", load, 0, MB_REFUSED_FORM_RANGE},
+        {"pack", pack, 0, MB_REFUSED_FORM_RANGE + MB_REFUSED_ROOM_TOO_SMALL},
+        {"unpack", unpack, 0, MB_REFUSED_NOT_GROUPED + MB_REFUSED_FORM_RANGE}, {"exit", decode_exit, 0, 0},
     };
     for (size_t i = 0; i < sizeof calls / sizeof calls[0]; i++) {
         size_t most = most_taken(calls[i]);

@@ -7,8 +7,8 @@
 use std::error::Error;
 use std::process::ExitCode;
 
-use marshbodkin::{syscall_bit, version, Exit, Program, Record, Refusal, Setting, Stop, AT_SP};
-use marshbodkin::{BUNDLE_LENGTH, EXTERNAL_PAGE_LENGTH, EXTERNAL_START, RAM_LENGTH, VERSION};
+use marshbodkin::{syscall_bit, version, Exit, Program, Record, Refusal, Setting, Stop, VERSION};
+use marshbodkin::{BUNDLE_LENGTH, EXTERNAL_PAGE_LENGTH, EXTERNAL_START, RAM_LENGTH, SHORT_MOST};
 
 type Outcome = Result<(), Box<dyn Error>>;
 
@@ -144,19 +144,23 @@ fn begin(record: &mut Record, first: usize, pairs: u32) {
     record.registers[PAIRS_LEFT] = pairs;
 }
 
-/// The record as a file or a link would take it, and give it back. What is damaged
-/// on the way and out of range then is told by its field, here SP.
+/// The record packed, as a slow link would take it, and give it back; a file would
+/// take the 44 bytes of `store`. What is damaged on the way and out of range then is
+/// told by its field, here the flags, which stand last.
 fn over_a_link(record: &Record) -> Result<Record, Refusal> {
-    let sent = record.store()?;
-    let mut damaged = sent;
-    damaged[AT_SP as usize] ^= 1;
-    if let Err(refusal) = Record::load(&damaged) {
+    let mut room = [0; SHORT_MOST];
+    let length = record.pack(&mut room)?;
+    let sent = &mut room[..length];
+    println!("packed {length} bytes");
+    sent[length - 1] ^= 16;
+    if let Err(refusal) = Record::unpack(sent) {
         println!("damaged: {refusal}");
     }
-    Record::load(&sent)
+    sent[length - 1] ^= 16;
+    Record::unpack(sent)
 }
 
-/// Three cycles of the filter, with the record saved after the first.
+/// Three cycles of the filter, with the record sent over a link after the first.
 fn cycles(host: &mut Host) -> Outcome {
     let mut record = Record::default();
     record.registers[UPPER_LIMIT] = word_of(6.0);

@@ -1,5 +1,5 @@
-/* The packing of a record, for records made from a seed: held to docs/MACHINE.md's table "The stored form" by a writer of
- * this file's own, and to what the proved library reads from the packed bytes and writes to them. So is the position of the
+/* The bytes of a record, for records made from a seed: held to docs/MACHINE.md's table "The stored form" by a writer of
+ * this file's own, and to what the proved library reads from these bytes and writes to them. So is the position of the
  * first field out of range. */
 #include "check.h"
 #include "marshbodkin.h"
@@ -84,16 +84,16 @@ static void write_by_table(const mb_record *record, uint8_t *bytes)
 }
 
 /* Both ways, with nothing written past the 44 bytes. */
-static void packed_by_the_table(void)
+static void bytes_by_the_table(void)
 {
-    uint8_t packed[MB_RECORD_BYTES + 1], expected[MB_RECORD_BYTES + 1];
-    mb_record record = any_record(), unpacked = any_record();
-    packed[MB_RECORD_BYTES] = expected[MB_RECORD_BYTES] = 0x5A;
+    uint8_t bytes[MB_RECORD_BYTES + 1], expected[MB_RECORD_BYTES + 1];
+    mb_record record = any_record(), back = any_record();
+    bytes[MB_RECORD_BYTES] = expected[MB_RECORD_BYTES] = 0x5A;
     write_by_table(&record, expected);
-    mb_internal_pack(&record, packed);
-    CHECK(memcmp(packed, expected, sizeof packed) == 0, true);
-    mb_internal_unpack(expected, &unpacked);
-    CHECK(same_record(&unpacked, &record), true);
+    mb_internal_to_bytes(&record, bytes);
+    CHECK(memcmp(bytes, expected, sizeof bytes) == 0, true);
+    mb_internal_from_bytes(expected, &back);
+    CHECK(same_record(&back, &record), true);
 }
 
 /* A record that is in range is stored as the table says, and read back. */
@@ -328,11 +328,11 @@ static void base_by_load(void)
 int main(void)
 {
     void (*const tests[])(void) = {
-        packed_by_the_table, stored_by_the_table, told_by_the_table, registers_by_mov, sp_by_add, sp_by_service,
+        bytes_by_the_table, stored_by_the_table, told_by_the_table, registers_by_mov, sp_by_add, sp_by_service,
         flags_by_branch, flags_by_cmp, base_by_validate, base_by_load,
     };
     fill_areas();
     for (int i = 0; i < RECORDS; i++)
         tests[i % (int)(sizeof tests / sizeof tests[0])]();
-    return outcome("packing.c");
+    return outcome("bytes.c");
 }
