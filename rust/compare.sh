@@ -1,14 +1,16 @@
 #!/bin/sh
-# Compares a lister, a runner and the library with the second program, and
-# shows that each comparison can fail: compare.sh LISTER RUNNER [SEED [PAGES]]
+# Compares the four programs and the library with the second program, and shows
+# that each comparison can fail: compare.sh LISTER RUNNER PACK UNPACK [SEED [PAGES]]
 set -eu
-if [ "$#" -lt 2 ]; then
-    echo "usage: compare.sh LISTER RUNNER [SEED [PAGES]]" >&2
+if [ "$#" -lt 4 ]; then
+    echo "usage: compare.sh LISTER RUNNER PACK UNPACK [SEED [PAGES]]" >&2
     exit 2
 fi
 lister=$(realpath "$1")
 runner=$(realpath "$2")
-shift 2
+pack=$(realpath "$3")
+unpack=$(realpath "$4")
+shift 4
 cd "$(dirname "$0")"
 cargo build --release --offline --quiet
 
@@ -22,9 +24,9 @@ must_differ() {
     fi
 }
 
-./target/release/programs "$lister" "$runner" "$@"
-for name in lt-from-n set-complement; do
-    must_differ ./target/release/programs --break "$name" "$lister" "$runner"
+./target/release/programs "$lister" "$runner" "$pack" "$unpack" "$@"
+for name in lt-from-n set-complement highest-group-first bytes-behind; do
+    must_differ ./target/release/programs --break "$name" "$lister" "$runner" "$pack" "$unpack"
 done
 echo "deliberate mistakes found"
 
@@ -33,7 +35,12 @@ for name in lt-from-n first-successor count-one-less base-one-off place-128 imm1
     set-one-off set-complement count-without-set run-without-set last-moves-on \
     small-with-cbnz small-with-movw full-behind-terminator profile-after-length profile-2-small \
     count-without-profile run-without-profile alignment-before-bounds external-by-most place-before-external \
-    last-failing-field position-in-fields none-offset-at-kind no-record-at-sp no-record-at-last; do
+    last-failing-field position-in-fields none-offset-at-kind no-record-at-sp no-record-at-last \
+    groups-of-eight highest-group-first padded-group five-groups-refused six-groups \
+    offset-with-none unknown-without-offset sp-as-it-stands sp-one-below bytes-behind \
+    range-before-groups last-number position-in-numbers \
+    register-cut kind-cut offset-cut place-cut flags-cut \
+    room-one-less room-for-the-longest room-cleared room-before-range groups-before-room; do
     must_differ ./target/release/library --break "$name" ${1+"$1"}
 done
 echo "deliberate mistakes found"

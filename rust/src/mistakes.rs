@@ -1,5 +1,7 @@
 //! Deliberate mistakes: a comparison that does not find them is worth nothing.
 
+mod short;
+
 use crate::second::arith::{condition_passed, Flags};
 use crate::second::count::{
     count, greatest_closed, largest, starts_with_terminator, successors, Reading,
@@ -15,7 +17,7 @@ use crate::second::record::{
 use crate::second::rules::Rules;
 
 /// Each mistake's name, and the rules with it.
-pub const MISTAKES: [(&str, Rules); 26] = [
+const MISTAKES: [(&str, Rules); 26] = [
     (
         "lt-from-n",
         Rules {
@@ -211,10 +213,27 @@ pub const MISTAKES: [(&str, Rules); 26] = [
     ),
 ];
 
+/// All mistakes, those of the short form last.
+fn all() -> impl Iterator<Item = (&'static str, Rules)> {
+    let of_the_short_form = short::MISTAKES.into_iter().map(|(name, short)| {
+        let rules = Rules {
+            short,
+            ..Rules::RIGHT
+        };
+        (name, rules)
+    });
+    MISTAKES.into_iter().chain(of_the_short_form)
+}
+
+/// The names of all mistakes.
+pub fn names() -> Vec<&'static str> {
+    all().map(|(name, _)| name).collect()
+}
+
 /// The rules with the mistake of that name.
 pub fn rules(name: &str) -> Option<Rules> {
-    let found = MISTAKES.iter().find(|(known, _)| *known == name);
-    found.map(|&(_, rules)| rules)
+    let mut found = all().filter(|(known, _)| *known == name);
+    found.next().map(|(_, rules)| rules)
 }
 
 /// LT (11) taken from N alone.

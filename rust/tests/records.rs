@@ -1,5 +1,5 @@
-//! The wrapper's records, which it packs and unpacks itself, against the second
-//! program's: field by field over steps, and in the stored form.
+//! The wrapper's records, which it turns into bytes and back itself, against the
+//! second program's: field by field over steps, and in both stored forms.
 
 use marshbodkin::{self as wrapper, Program, Setting};
 use marshbodkin_check::compare::codes::{self, UNKNOWN};
@@ -12,6 +12,7 @@ use marshbodkin_check::second::record::{
 };
 use marshbodkin_check::second::refusal::Refusal;
 use marshbodkin_check::second::rules::Rules;
+use marshbodkin_check::second::text;
 
 const STEPS: u64 = 20_000;
 const FORMS: u16 = 5000;
@@ -90,7 +91,7 @@ fn the_same_fields_after_a_step() {
 }
 
 #[test]
-fn the_same_stored_form() {
+fn the_same_stored_forms() {
     let mut random = Random::of_page(DEFAULT_SEED, 8 << 40);
     for number in 0..FORMS {
         let record = Record {
@@ -98,9 +99,17 @@ fn the_same_stored_form() {
             ..records::fit(&mut random, MOST_EXTERNAL as usize)
         };
         let stored = stored_bytes(&record);
-        let packed = wrapped(&record).store().expect("in range");
-        assert_eq!(packed[..], stored);
+        let bytes = wrapped(&record).store().expect("in range");
+        assert_eq!(bytes[..], stored);
         assert_eq!(wrapper::Record::load(&stored), Ok(wrapped(&record)));
+
+        let mut room = [0; wrapper::SHORT_MOST];
+        let length = wrapped(&record).pack(&mut room).expect("in range");
+        assert_eq!(room[..length], text::packed(Rules::RIGHT, &stored));
+        assert_eq!(
+            wrapper::Record::unpack(&room[..length]),
+            Ok(wrapped(&record))
+        );
     }
 }
 
@@ -120,7 +129,9 @@ fn the_same_refusals_of_a_form() {
         let stored = stored_bytes(&record);
         let refusal = store_bytes(Rules::RIGHT, &stored, &mut [0; STORED]).expect("out of range");
         met[usize::from(refusal.position.expect("a field"))] = true;
-        let packed = wrapped(&record).store();
+        let bytes = wrapped(&record).store();
+        assert_eq!(bytes.map_err(of_wrapper), Err(of_second(refusal)));
+        let packed = wrapped(&record).pack(&mut []);
         assert_eq!(packed.map_err(of_wrapper), Err(of_second(refusal)));
         assert_eq!(read_back(Rules::RIGHT, &stored).1, Some(refusal));
         let loaded = wrapper::Record::load(&stored);

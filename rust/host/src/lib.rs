@@ -46,6 +46,10 @@
 //! handed none (255), the refusal says which field is wrong, by
 //! [`Refusal::position`]: [`AT_SP`] and its like name the positions.
 //!
+//! For slow links a stored record has a short form, of [`SHORT_LEAST`] to
+//! [`SHORT_MOST`] bytes: [`Record::pack`] and [`Record::unpack`], or [`pack()`] and
+//! [`unpack()`] for a record that is stored already.
+//!
 //! A host that changes the record between calls, say to hand in the results of a
 //! syscall, or the setting, starts a new series of calls with it: what is proved of a series
 //! holds from any fit record and place. `examples/host.rs` is such a host.
@@ -66,6 +70,7 @@ mod program;
 pub mod raw;
 mod record;
 mod refusal;
+mod short;
 mod stop;
 pub mod words;
 
@@ -74,6 +79,7 @@ pub use program::{Program, Reading, Setting};
 pub use record::{Base, Flags, Record, RECORD_LENGTH};
 pub use record::{AT_BASE_KIND, AT_BASE_OFFSET, AT_FLAGS, AT_PLACE, AT_R0, AT_SP};
 pub use refusal::Refusal;
+pub use short::{pack, unpack, SHORT_LEAST, SHORT_MOST};
 pub use stop::{Fault, Stop, Stopped};
 
 /// Most bytes of a page, which are a multiple of [`BUNDLE_LENGTH`].
@@ -107,7 +113,7 @@ pub const PROFILE_FULL: u32 = 0;
 pub const PROFILE_SMALL: u32 = 1;
 
 /// The version of these calls: 65536 * major + 256 * minor + patch.
-pub const VERSION: u32 = 0x00_05_00;
+pub const VERSION: u32 = 0x00_06_00;
 
 /// The version of the archive that is linked, to be held against [`VERSION`]
 /// before any other call.

@@ -4,15 +4,15 @@
 //! 0 (accepted) or the number of a refusal; a step and a run also 255, where bytes
 //! hold no record. Beside 7 and 255 stands the position, in the 44 bytes, of the
 //! first field that fails; beside any other number it is 0, and beside 255 too where
-//! the bytes aren't 44.
+//! the bytes aren't 44. Beside 7, 0 is r0's position, which only [`unpack`] tells.
 //!
 //! Bit n of `never_return` says that direct syscall n never returns; `profile` is
 //! [`PROFILE_FULL`](crate::PROFILE_FULL) or [`PROFILE_SMALL`](crate::PROFILE_SMALL),
 //! and any other number is refused. This is the one module with `unsafe`.
 
 use marshbodkin_sys::{
-    mb_raw_count, mb_raw_exit, mb_raw_fresh, mb_raw_load, mb_raw_read_bundle, mb_raw_run,
-    mb_raw_step, mb_raw_store, mb_raw_validate, mb_raw_version,
+    mb_raw_count, mb_raw_exit, mb_raw_fresh, mb_raw_load, mb_raw_pack, mb_raw_read_bundle,
+    mb_raw_run, mb_raw_step, mb_raw_store, mb_raw_unpack, mb_raw_validate, mb_raw_version,
 };
 
 /// What a step or a run answers, and the numbers it was lent.
@@ -129,6 +129,41 @@ pub fn load(stored: &[u8], record: &mut [u8]) -> (u32, u32) {
             stored.len(),
             record.as_mut_ptr(),
             record.len(),
+            &mut position,
+        )
+    };
+    (code, position)
+}
+
+/// Packs a stored form into the room: the answer, the length of the short form at the
+/// room's start (0 where it is refused), and the position.
+pub fn pack(stored: &[u8], room: &mut [u8]) -> (u32, usize, u32) {
+    // The call overwrites both, whatever it answers; if it did not, that would show.
+    let (mut length, mut position) = (usize::MAX, u32::MAX);
+    // SAFETY: a slice, a `&mut` slice and two locals, as above.
+    let code = unsafe {
+        mb_raw_pack(
+            stored.as_ptr(),
+            stored.len(),
+            room.as_mut_ptr(),
+            room.len(),
+            &mut length,
+            &mut position,
+        )
+    };
+    (code, length, position)
+}
+
+/// Unpacks a short form into the room: the answer and the position.
+pub fn unpack(packed: &[u8], room: &mut [u8]) -> (u32, u32) {
+    let mut position = u32::MAX;
+    // SAFETY: a slice, a `&mut` slice and a local, as above.
+    let code = unsafe {
+        mb_raw_unpack(
+            packed.as_ptr(),
+            packed.len(),
+            room.as_mut_ptr(),
+            room.len(),
             &mut position,
         )
     };

@@ -5,8 +5,8 @@ use std::fmt;
 
 use crate::words;
 
-/// Why a call is refused: 01's refusals, those of an unknown profile and of a
-/// record's fields, and the library's own.
+/// Why a call is refused: 01's refusals, those of an unknown profile, of a record's
+/// fields and of the short form, and the library's own.
 ///
 /// Two say where in the record's 44 bytes the first field begins that fails, by
 /// its position, as [`AT_SP`](crate::AT_SP): [`words::field`] names it.
@@ -21,16 +21,22 @@ pub enum Refusal {
     ExternalLength,
     /// 5: the place isn't fit.
     UnfitPlace,
-    /// 6: the stored form isn't 44 bytes.
+    /// 6: the stored form, or the room lent for it, isn't 44 bytes.
     FormLength,
     /// 7: the stored or given record is out of range.
     #[non_exhaustive]
     FormRange {
-        /// 32 SP, 36 base kind, 37 base offset, 41 place, 43 flags.
+        /// 32 SP, 36 base kind, 37 base offset, 41 place, 43 flags. In a short
+        /// form also 0 r0, 4 r1 and so on up to 28 r7, of 2^32 or more.
         position: u32,
     },
     /// 8: the asked bundle isn't in the page.
     NoSuchBundle,
+    /// 9: in the short form a number isn't in its shortest groups, has more than five
+    /// of them or is cut off, or bytes follow the last.
+    NotGrouped,
+    /// 10: the room for the written form is too small.
+    RoomTooSmall,
     /// 18, before all others: the number given to
     /// [`Program::profile`](crate::Program::profile) is no profile's.
     UnknownProfile,
@@ -67,6 +73,8 @@ impl Refusal {
             6 => Refusal::FormLength,
             7 => Refusal::FormRange { position },
             8 => Refusal::NoSuchBundle,
+            9 => Refusal::NotGrouped,
+            10 => Refusal::RoomTooSmall,
             18 => Refusal::UnknownProfile,
             41 => Refusal::SpBounds,
             42 => Refusal::SpAlignment,
@@ -87,6 +95,8 @@ impl Refusal {
             Refusal::FormLength => 6,
             Refusal::FormRange { .. } => 7,
             Refusal::NoSuchBundle => 8,
+            Refusal::NotGrouped => 9,
+            Refusal::RoomTooSmall => 10,
             Refusal::UnknownProfile => 18,
             Refusal::SpBounds => 41,
             Refusal::SpAlignment => 42,
@@ -119,11 +129,11 @@ impl fmt::Display for Refusal {
     fn fmt(&self, f: &mut fmt::Formatter<'_>) -> fmt::Result {
         let number = self.number();
         let said = words::refusal(number);
-        match self.position() {
-            None => write!(f, "refused {number}: {said}"),
-            // No field's, since r0 can't fail: it is the length of the bytes.
-            Some(0) => write!(f, "refused {number} 0: {said}"),
-            Some(position) => {
+        match (self, self.position()) {
+            (_, None) => write!(f, "refused {number}: {said}"),
+            // No field's: it is the length of the bytes.
+            (Refusal::NoRecord { position: 0 }, _) => write!(f, "refused {number} 0: {said}"),
+            (_, Some(position)) => {
                 let field = words::field(position);
                 write!(f, "refused {number} {position}: {said} at {field}")
             }

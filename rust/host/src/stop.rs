@@ -232,7 +232,7 @@ mod tests {
         let stop = Stop::of(6, 0, 0);
         assert_eq!(stop.to_string(), "stop 6: unknown");
         assert_eq!(Stop::of(3, 7, 0), Stop::Fault(Fault::Unknown(7)));
-        assert_eq!(answer(9, 5, 9), Err(Refusal::Unknown(9)));
+        assert_eq!(answer(4, 5, 4), Err(Refusal::Unknown(4)));
     }
 
     #[test]

@@ -16,6 +16,8 @@ pub fn refusal(number: u32) -> &'static str {
         6 => "stored form, or the room lent for it, is not 44 bytes",
         7 => "stored or given record is out of range",
         8 => "asked bundle is not in the page",
+        9 => "short form is not in shortest groups, is cut off or is followed by bytes",
+        10 => "room for the written form is too small",
         18 => "unknown profile",
         41 => "SP is below 0x10000 or above 0x18000",
         42 => "SP is no multiple of 4",
@@ -27,7 +29,7 @@ pub fn refusal(number: u32) -> &'static str {
 }
 
 /// The field of a record that begins at a position of its 44 bytes. To be asked only
-/// with 7, or with 255 and a position above 0, since 0, which is r0's, also stands
+/// with 7, where 0 is r0's, or with 255 and a position above 0: elsewhere 0 stands
 /// where no field is told.
 pub fn field(position: u32) -> &'static str {
     match position {

@@ -78,18 +78,18 @@ fn refusals_and_faults_show_them() {
             _ => {}
         }
     }
-    for number in [4, 9, 40, 45, u32::MAX] {
+    for number in [4, 11, 40, 45, u32::MAX] {
         assert_eq!(Refusal::of(number, 41), Some(Refusal::Unknown(number)));
     }
-    assert_eq!(Refusal::Unknown(9).to_string(), "refused 9: unknown");
+    assert_eq!(Refusal::Unknown(4).to_string(), "refused 4: unknown");
     assert_eq!(Fault::Unknown(7).to_string(), "fault 7: unknown");
 }
 
-/// Every field by its name; position 0 of bytes that aren't 44 names none.
+/// Every field by its name, r0 too; position 0 of bytes that aren't 44 names none.
 #[test]
 fn positions_are_shown() {
     for ((of, position), field) in written() {
-        if of == "field" && position > 0 {
+        if of == "field" {
             let refusal = Refusal::of(7, position).expect("a refusal");
             assert_eq!(refusal.position(), Some(position));
             let words = words::refusal(7);

@@ -1,5 +1,5 @@
 //! How fast the library is, beside the second program in the same process:
-//! instructions and pages a second, and how the time grows. No test.
+//! instructions, pages and stored forms a second, and how the time grows. No test.
 
 #![forbid(unsafe_code)]
 
@@ -8,13 +8,15 @@ use std::time::Instant;
 
 use marshbodkin::raw;
 use marshbodkin_check::assemble::{self as asm, page_bytes, Bundle};
-use marshbodkin_check::random;
+use marshbodkin_check::compare::numbers::in_range;
+use marshbodkin_check::random::{self, Random};
 use marshbodkin_check::second::count::count_of;
 use marshbodkin_check::second::machine::{run, Stop};
 use marshbodkin_check::second::memory::RAM_SIZE;
 use marshbodkin_check::second::page::Code;
-use marshbodkin_check::second::record::{stored_bytes, Record};
+use marshbodkin_check::second::record::{stored_bytes, Record, STORED};
 use marshbodkin_check::second::rules::Rules;
+use marshbodkin_check::second::short::{LEAST, MOST};
 
 /// Measurements of which the median is taken.
 const TIMES: usize = 31;
@@ -24,6 +26,8 @@ const BUDGET: u32 = 1_000_000;
 const COUNTS: usize = 4000;
 /// Short calls that are timed together.
 const CALLS: usize = 20_000;
+/// The second program's rules.
+const RULES: Rules = Rules::RIGHT;
 
 /// A page whose run is ended by the budget alone.
 struct Loop {
@@ -171,7 +175,7 @@ fn counts(pages: &[Vec<u8>], times: usize) -> Taken {
         },
         || {
             for page in pages.iter().cycle().take(times) {
-                black_box(count_of(Rules::RIGHT, Code::plain(black_box(page))));
+                black_box(count_of(RULES, Code::plain(black_box(page))));
             }
         },
     )
@@ -198,6 +202,47 @@ fn count_rates() {
     ] {
         counts(pages, COUNTS).rates(name, "pages", COUNTS as f64);
     }
+}
+
+/// Stored and short forms of records, one of each length of the short form.
+fn forms() -> Vec<(Vec<u8>, Vec<u8>)> {
+    let mut random = Random::of_page(random::DEFAULT_SEED, 0);
+    let numbers = (LEAST..=MOST).map(|length| in_range(&mut random, length));
+    numbers.map(|it| (it.stored(), it.bytes())).collect()
+}
+
+/// Forms packed and unpacked a second.
+fn form_rates() {
+    let forms = forms();
+    let each = || forms.iter().cycle().take(CALLS);
+    let packed = measure(
+        || {
+            for (stored, _) in each() {
+                assert_eq!(raw::pack(black_box(stored), &mut [0; MOST]).0, 0);
+            }
+        },
+        || {
+            for (stored, _) in each() {
+                let answer = (RULES.short.pack)(RULES, black_box(stored), &mut [0; MOST]);
+                assert!(answer.is_ok());
+            }
+        },
+    );
+    packed.rates("packing", "forms", CALLS as f64);
+    let unpacked = measure(
+        || {
+            for (_, form) in each() {
+                assert_eq!(raw::unpack(black_box(form), &mut [0; STORED]).0, 0);
+            }
+        },
+        || {
+            for (_, form) in each() {
+                let answer = (RULES.short.unpack)(RULES, black_box(form), &mut [0; STORED]);
+                assert!(answer.is_ok());
+            }
+        },
+    );
+    unpacked.rates("unpacking", "forms", CALLS as f64);
 }
 
 /// How the time grows with the budget.
@@ -241,6 +286,7 @@ fn main() {
     });
     run_rates(&loops);
     count_rates();
+    form_rates();
     by_budget(&loops);
     by_length();
 }

@@ -29,7 +29,7 @@ fn request(arguments: impl Iterator<Item = String>) -> Option<(Rules, u64)> {
 
 fn main() -> ExitCode {
     let Some((rules, seed)) = request(std::env::args().skip(1)) else {
-        let names = mistakes::MISTAKES.map(|(name, _)| name).join(", ");
+        let names = mistakes::names().join(", ");
         eprintln!("usage: {USAGE}\nnames: {names}");
         return ExitCode::from(2);
     };

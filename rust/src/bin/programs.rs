@@ -1,20 +1,23 @@
-//! Compares what a lister and a runner print with the second program, to the
-//! byte, on 01's own pages and on pages made from a seed.
+//! Compares what the four programs print with the second program, to the byte: a
+//! lister and a runner on 01's own pages and on pages made from a seed, and those that
+//! pack and unpack on stored records.
 
 #![forbid(unsafe_code)]
 
 use std::collections::BTreeMap;
 use std::fmt;
-use std::io::{self, ErrorKind, Write};
-use std::process::{Command, ExitCode, Stdio};
+use std::io;
+use std::process::ExitCode;
 
+use marshbodkin_check::converters::{PACK, UNPACK};
+use marshbodkin_check::outputs::output;
 use marshbodkin_check::random::{self, DEFAULT_SEED};
 use marshbodkin_check::second::machine::Stop;
 use marshbodkin_check::second::rules::Rules;
 use marshbodkin_check::second::text;
 use marshbodkin_check::{mistakes, paper, show};
 
-const USAGE: &str = "programs [--break NAME] LISTER RUNNER [SEED [PAGES]]";
+const USAGE: &str = "programs [--break NAME] LISTER RUNNER PACK UNPACK [SEED [PAGES]]";
 const DEFAULT_PAGES: u64 = 400;
 /// What the runner, whose record is fit, refuses a page by. Both must be met.
 const REFUSALS: [u8; 2] = [1, 5];
@@ -23,6 +26,8 @@ const REFUSALS: [u8; 2] = [1, 5];
 struct Request {
     lister: String,
     runner: String,
+    pack: String,
+    unpack: String,
     seed: u64,
     pages: u64,
     rules: Rules,
@@ -37,6 +42,7 @@ fn request(arguments: impl Iterator<Item = String>) -> Option<Request> {
         rules = mistakes::rules(&arguments.next()?)?;
     }
     let (lister, runner) = (arguments.next()?, arguments.next()?);
+    let (pack, unpack) = (arguments.next()?, arguments.next()?);
     let mut number = |default| match arguments.next() {
         None => Some(default),
         Some(text) => text.parse().ok(),
@@ -45,6 +51,8 @@ fn request(arguments: impl Iterator<Item = String>) -> Option<Request> {
     arguments.next().is_none().then_some(Request {
         lister,
         runner,
+        pack,
+        unpack,
         seed,
         pages,
         rules,
@@ -112,26 +120,6 @@ impl fmt::Display for Tally {
     }
 }
 
-/// What a program prints for a page on standard input. One that is ended by a
-/// signal is an error, whatever it printed.
-fn output(program: &str, page: &[u8]) -> io::Result<Vec<u8>> {
-    let mut child = Command::new(program)
-        .stdin(Stdio::piped())
-        .stdout(Stdio::piped())
-        .spawn()?;
-    if let Some(mut input) = child.stdin.take() {
-        match input.write_all(page) {
-            Err(error) if error.kind() != ErrorKind::BrokenPipe => return Err(error),
-            _ => {}
-        }
-    }
-    let done = child.wait_with_output()?;
-    match done.status.code() {
-        Some(_) => Ok(done.stdout),
-        None => Err(io::Error::other(format!("{program}: {}", done.status))),
-    }
-}
-
 /// A difference between a program and the second program.
 fn difference(program: &str, page: &[u8], expected: &str) -> io::Result<Option<String>> {
     let printed = output(program, page)?;
@@ -145,7 +133,7 @@ fn difference(program: &str, page: &[u8], expected: &str) -> io::Result<Option<S
     }))
 }
 
-/// Compares both programs on one page, and counts it.
+/// Compares lister and runner on one page, and counts it.
 fn compare(request: &Request, page: &[u8], tally: &mut Tally) -> io::Result<Option<String>> {
     let answer = text::runner_answer(request.rules, page);
     let listing = text::lister(request.rules, page);
@@ -159,10 +147,9 @@ fn compare(request: &Request, page: &[u8], tally: &mut Tally) -> io::Result<Opti
     Ok(None)
 }
 
-/// Compares on all pages; the answer tells whether all were equal, and each refusal
-/// was met.
-fn compare_all(request: &Request) -> io::Result<bool> {
-    println!("seed {}", request.seed);
+/// Compares lister and runner on all pages; the answer tells whether all were equal,
+/// and each refusal was met.
+fn compare_pages(request: &Request) -> io::Result<bool> {
     let mut tally = Tally::new();
     let own = paper::PAGES
         .iter()
@@ -181,6 +168,34 @@ fn compare_all(request: &Request) -> io::Result<bool> {
         println!("failed: refused-{number} was not met");
     }
     Ok(unmet.is_empty())
+}
+
+/// Compares those that pack and unpack; the answer tells whether all were equal, and
+/// each answer was met.
+fn compare_converters(request: &Request) -> io::Result<bool> {
+    let mut equal = true;
+    for (converter, program) in [(PACK, &request.pack), (UNPACK, &request.unpack)] {
+        match converter.compare(program, request.rules, request.seed)? {
+            Ok(met) => {
+                println!("{met}");
+                for failure in met.failures() {
+                    println!("failed: {failure}");
+                    equal = false;
+                }
+            }
+            Err(found) => {
+                println!("difference: seed {}, {found}", request.seed);
+                return Ok(false);
+            }
+        }
+    }
+    Ok(equal)
+}
+
+/// Compares all four.
+fn compare_all(request: &Request) -> io::Result<bool> {
+    println!("seed {}", request.seed);
+    Ok(compare_pages(request)? && compare_converters(request)?)
 }
 
 fn main() -> ExitCode {

@@ -65,7 +65,7 @@ const PLACES: [u16; 6] = [0, 127, 128, 256, 32_768, 65_535];
 const FLAGS: [u8; 6] = [0, 15, 16, 31, 128, 255];
 
 /// A choice of each field.
-struct Form {
+pub struct Form {
     sp: (u32, Told),
     base: BaseRow,
     place: u16,
@@ -74,10 +74,10 @@ struct Form {
 
 impl Form {
     /// How many there are.
-    const ALL: usize = SPS.len() * BASES.len() * PLACES.len() * FLAGS.len();
+    pub const ALL: usize = SPS.len() * BASES.len() * PLACES.len() * FLAGS.len();
 
     /// The choice of a number.
-    fn of(number: usize) -> Form {
+    pub fn of(number: usize) -> Form {
         let (rest, flags) = (number / FLAGS.len(), number % FLAGS.len());
         let (rest, place) = (rest / PLACES.len(), rest % PLACES.len());
         let (sp, base) = (rest / BASES.len(), rest % BASES.len());
@@ -90,7 +90,7 @@ impl Form {
     }
 
     /// The 44 bytes, with any registers.
-    fn bytes(&self, random: &mut Random) -> Vec<u8> {
+    pub fn bytes(&self, random: &mut Random) -> Vec<u8> {
         let mut bytes = Vec::with_capacity(STORED);
         for _ in 0..8 {
             bytes.extend(records::value(random).to_le_bytes());
@@ -103,8 +103,8 @@ impl Form {
         bytes
     }
 
-    /// What storing and reading back tell.
-    fn stored(&self) -> Told {
+    /// What storing, reading back and packing tell.
+    pub fn stored(&self) -> Told {
         if self.sp.1 != Told::ACCEPTED {
             Told::at(7, 32)
         } else if self.base.2 > 0 {

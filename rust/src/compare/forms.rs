@@ -30,7 +30,7 @@ pub fn compare(comparison: &mut Comparison) -> Same {
 }
 
 /// Records in range, at and off the edges of their fields.
-fn samples() -> [Record; 6] {
+pub fn samples() -> [Record; 6] {
     let fresh = Record::fresh();
     let record = |sp, flags, place, base| Record {
         registers: [1, 2, 3, 0x8000_0000, u32::MAX, 6, 0x0102_0304, 0xA5A5_5A5A],

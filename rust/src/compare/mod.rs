@@ -2,12 +2,14 @@
 //! bytes on both sides. No expected answer comes from the library.
 //!
 //! - [`sides`]: each call on both sides, and [`report`] for a difference.
-//! - [`profiles`], [`refusals`], [`fields`], [`syscalls`], [`exits`], [`forms`],
-//!   [`reader`], [`steps`], [`pages`], [`fixed`]: the parts. Each stops at its first difference.
-//! - [`records`], [`cases`], [`codes`], [`sets`], [`shapes`] and [`lacking`]: what
-//!   the parts hand over; [`calls`]: what several of them call.
-//! - [`tally`]: what was met; a class that was not is a failure too, and so is an
-//!   answer that its call can't give.
+//! - [`short`]: packing and unpacking on both sides, with the way back.
+//! - [`profiles`], [`refusals`], [`fields`], [`packing`], [`unpacking`], [`syscalls`],
+//!   [`exits`], [`forms`], [`reader`], [`steps`], [`pages`], [`fixed`]: the parts. Each
+//!   stops at its first difference.
+//! - [`records`], [`numbers`], [`cases`], [`codes`], [`sets`], [`shapes`] and
+//!   [`lacking`]: what the parts hand over; [`calls`]: what several of them call.
+//! - [`tally`] and [`short_tally`]: what was met; a class that was not is a failure
+//!   too, and so is an answer that its call can't give.
 
 pub mod calls;
 pub mod cases;
@@ -17,6 +19,8 @@ pub mod fields;
 pub mod fixed;
 pub mod forms;
 pub mod lacking;
+pub mod numbers;
+pub mod packing;
 pub mod pages;
 pub mod profiles;
 pub mod reader;
@@ -25,10 +29,13 @@ pub mod refusals;
 pub mod report;
 pub mod sets;
 pub mod shapes;
+pub mod short;
+pub mod short_tally;
 pub mod sides;
 pub mod steps;
 pub mod syscalls;
 pub mod tally;
+pub mod unpacking;
 
 use crate::second::rules::Rules;
 use tally::Tally;
@@ -49,10 +56,12 @@ type Part = (&'static str, fn(&mut Comparison) -> Same);
 
 /// The parts that meet most kinds soonest come first: a mistake is found there in
 /// a moment.
-const PARTS: [Part; 10] = [
+const PARTS: [Part; 12] = [
     ("profiles", profiles::compare),
     ("refusals", refusals::compare),
     ("fields", fields::compare),
+    ("packing", packing::compare),
+    ("unpacking", unpacking::compare),
     ("syscalls", syscalls::compare),
     ("exits", exits::compare),
     ("forms", forms::compare),

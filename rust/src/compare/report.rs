@@ -2,6 +2,7 @@
 
 use std::fmt::Debug;
 
+use super::short::Packed;
 use super::sides::{record_in, Given, Handed, Told};
 use crate::second::page::Code;
 use crate::second::record::Base;
@@ -105,7 +106,24 @@ pub fn exit<T: Debug>(low: u32, literal: u32, library: T, second: T) -> String {
     )
 }
 
-/// A difference of storing or reading back; the library's side comes first.
+/// A difference of packing; the library's side comes first.
+pub fn packing(stored: &[u8], room: &[u8], sides: [&Packed; 2]) -> String {
+    let side = |Packed { told, length, room }: &Packed| {
+        let Told { code, position } = told;
+        let room = show::bytes(room);
+        format!("{code} at {position}, length {length}, {room}")
+    };
+    let [library, second] = sides.map(side);
+    format!(
+        "pack\nstored ({} bytes): {}\nroom ({} bytes): {}\nlibrary: {library}\nsecond program: {second}\n",
+        stored.len(),
+        show::bytes(stored),
+        room.len(),
+        show::bytes(room),
+    )
+}
+
+/// A difference of storing, reading back or unpacking; the library's side comes first.
 pub fn form(call: &str, from: &[u8], room: &[u8], sides: [(Told, &Vec<u8>); 2]) -> String {
     let side = |(told, bytes): (Told, &Vec<u8>)| {
         let Told { code, position } = told;

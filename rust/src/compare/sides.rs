@@ -42,7 +42,7 @@ impl Told {
     }
 
     /// What the second program's refusal is told by.
-    fn of(refusal: Option<Refusal>) -> Told {
+    pub fn of(refusal: Option<Refusal>) -> Told {
         refusal.map_or(Told::ACCEPTED, |refusal| Told {
             code: refusal.number.into(),
             position: refusal.position.map_or(0, u32::from),

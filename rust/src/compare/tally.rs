@@ -5,6 +5,7 @@ use std::fmt;
 
 use super::codes;
 use super::sets;
+use super::short_tally;
 use super::sides::{record_in, Given, Handed, Told, NO_RECORD};
 use crate::assemble as asm;
 use crate::names::{self, BAD_WORDS, NARROW, SERVICES, WIDE, WORDS};
@@ -19,7 +20,7 @@ pub const LEAST_STEPS: u64 = 200_000;
 pub const LEAST_PAGES: u64 = 20_000;
 
 /// The calls, each with what it can answer.
-const ANSWERS: [(&str, &[Told]); 8] = [
+const ANSWERS: [(&str, &[Told]); 10] = [
     ("count", &[Told::ACCEPTED, Told::plain(1), Told::plain(18)]),
     (
         "reader",
@@ -34,11 +35,13 @@ const ANSWERS: [(&str, &[Told]); 8] = [
     ("fresh", &[Told::ACCEPTED, Told::plain(6)]),
     ("store", &OF_A_FORM),
     ("load", &OF_A_FORM),
+    ("pack", &OF_PACKING),
+    ("unpack", &OF_UNPACKING),
     ("step", &OF_A_RUN),
     ("run", &OF_A_RUN),
 ];
 /// 7 at every field that can fail.
-const OF_A_FORM: [Told; 7] = [
+pub const OF_A_FORM: [Told; 7] = [
     Told::ACCEPTED,
     Told::plain(6),
     Told::at(7, 32),
@@ -46,6 +49,36 @@ const OF_A_FORM: [Told; 7] = [
     Told::at(7, 37),
     Told::at(7, 41),
     Told::at(7, 43),
+];
+/// The same, and 10.
+const OF_PACKING: [Told; 8] = [
+    Told::ACCEPTED,
+    Told::plain(6),
+    Told::at(7, 32),
+    Told::at(7, 36),
+    Told::at(7, 37),
+    Told::at(7, 41),
+    Told::at(7, 43),
+    Told::plain(10),
+];
+/// 7 at every field.
+pub const OF_UNPACKING: [Told; 16] = [
+    Told::ACCEPTED,
+    Told::plain(6),
+    Told::at(7, 0),
+    Told::at(7, 4),
+    Told::at(7, 8),
+    Told::at(7, 12),
+    Told::at(7, 16),
+    Told::at(7, 20),
+    Told::at(7, 24),
+    Told::at(7, 28),
+    Told::at(7, 32),
+    Told::at(7, 36),
+    Told::at(7, 37),
+    Told::at(7, 41),
+    Told::at(7, 43),
+    Told::plain(9),
 ];
 /// 255 by a wrong length, and at every field that no record has.
 const OF_A_RUN: [Told; 14] = [
@@ -240,6 +273,7 @@ impl Tally {
         }
         let never = lacking().map(|name| (SMALL_EXECUTED, name));
         let never = never.chain(FAULTS_OF_BASES.map(|name| (SMALL_FAULTS, name)));
+        let never = never.chain(short_tally::NEVER);
         let met = never.filter(|&(group, name)| self.met(group, name) > 0);
         failures.extend(met.map(|(group, name)| format!("{group}: {name} was met")));
         for (name, least) in [("random steps", LEAST_STEPS), ("pages", LEAST_PAGES)] {
@@ -267,7 +301,7 @@ impl Tally {
 }
 
 /// A code with its position: 7 and 255 carry one, and no other code should.
-fn shown(told: Told) -> String {
+pub fn shown(told: Told) -> String {
     let Told { code, position } = told;
     match (code, position) {
         (7 | NO_RECORD, _) | (_, 1..) => format!("{code}-at-{position}"),
@@ -451,6 +485,7 @@ fn required() -> Vec<(&'static str, &'static str)> {
                 .flat_map(|&group| sets::KINDS.map(|kind| (group, kind))),
         )
         .chain(required_of_profiles())
+        .chain(short_tally::required())
         .collect()
 }
 

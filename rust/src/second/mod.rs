@@ -1,10 +1,11 @@
-//! The second program: decoder, profiles, arithmetic, services, count, records,
-//! machine, text.
+//! The second program: decoder, profiles, arithmetic, services, count, records and
+//! their two stored forms, machine, text.
 
 pub mod arith;
 pub mod count;
 pub mod decode;
 pub mod exits;
+pub mod groups;
 pub mod machine;
 pub mod memory;
 pub mod page;
@@ -13,4 +14,5 @@ pub mod record;
 pub mod refusal;
 pub mod rules;
 pub mod services;
+pub mod short;
 pub mod text;

@@ -102,6 +102,24 @@ impl Fields {
         })
     }
 
+    /// The fields of any record.
+    pub fn of(record: &Record) -> Fields {
+        let (kind, offset) = match record.base {
+            Base::None => (0, 0),
+            Base::Ram(offset) => (1, offset),
+            Base::External(offset) => (2, offset),
+        };
+        let Flags { n, z, c, v } = record.flags;
+        Fields {
+            registers: record.registers,
+            sp: record.sp,
+            kind,
+            offset,
+            place: record.place,
+            flags: 8 * u8::from(n) + 4 * u8::from(z) + 2 * u8::from(c) + u8::from(v),
+        }
+    }
+
     /// The positions of the fields out of range, first to last.
     pub fn out_of_range(&self) -> Vec<u8> {
         let sp_fits = (RAM_START..=RAM_END).contains(&self.sp) && self.sp.is_multiple_of(4);
@@ -170,7 +188,7 @@ pub fn given(rules: Rules, bytes: &[u8]) -> Result<Record, Refusal> {
 }
 
 /// The record of a stored form, or its refusal, 6 or 7.
-fn stored(rules: Rules, bytes: &[u8]) -> Result<Record, Refusal> {
+pub(super) fn stored(rules: Rules, bytes: &[u8]) -> Result<Record, Refusal> {
     let fields = Fields::read(bytes).ok_or(Refusal::plain(6))?;
     match (rules.out_of_range)(&fields) {
         Some(position) => Err(Refusal::at(7, position)),
@@ -203,21 +221,15 @@ pub fn read_back(rules: Rules, bytes: &[u8]) -> (Record, Option<Refusal>) {
 
 /// The bytes of the stored form, in 01's order, of any record.
 pub fn stored_bytes(record: &Record) -> Vec<u8> {
-    let (kind, offset) = match record.base {
-        Base::None => (0u8, 0),
-        Base::Ram(offset) => (1, offset),
-        Base::External(offset) => (2, offset),
-    };
-    let Flags { n, z, c, v } = record.flags;
-    let flags = 8 * u8::from(n) + 4 * u8::from(z) + 2 * u8::from(c) + u8::from(v);
+    let fields = Fields::of(record);
     let mut bytes = Vec::with_capacity(STORED);
-    for register in record.registers {
+    for register in fields.registers {
         bytes.extend(register.to_le_bytes());
     }
-    bytes.extend(record.sp.to_le_bytes());
-    bytes.push(kind);
-    bytes.extend(offset.to_le_bytes());
-    bytes.extend(record.place.to_le_bytes());
-    bytes.push(flags);
+    bytes.extend(fields.sp.to_le_bytes());
+    bytes.push(fields.kind);
+    bytes.extend(fields.offset.to_le_bytes());
+    bytes.extend(fields.place.to_le_bytes());
+    bytes.push(fields.flags);
     bytes
 }

@@ -7,6 +7,7 @@ use super::exits::{exit_of, Exit};
 use super::memory::validate;
 use super::page::{Code, NeverReturn, Page};
 use super::record::{unfit, Base, Fields, Record};
+use super::short::ShortRules;
 
 /// One rule of each kind.
 #[derive(Clone, Copy)]
@@ -35,6 +36,8 @@ pub struct Rules {
     pub no_record: fn(&Fields) -> Option<u8>,
     /// The exit of a low byte and its literal, if it is one.
     pub exit: fn(u32, u32) -> Option<Exit>,
+    /// Those of the short stored form.
+    pub short: ShortRules,
 }
 
 impl Rules {
@@ -51,5 +54,6 @@ impl Rules {
         out_of_range: |fields| fields.out_of_range().first().copied(),
         no_record: |fields| fields.of_no_record().first().copied(),
         exit: exit_of,
+        short: ShortRules::RIGHT,
     };
 }

@@ -1,14 +1,16 @@
-//! What the lister and the runner print for a page, to the byte. Both give the
-//! empty set of syscalls that never return and the full profile.
+//! What the lister and the runner print for a page, and what the programs that pack
+//! and unpack print for a stored record, to the byte. The first two give the empty
+//! set of syscalls that never return and the full profile.
 
 use super::arith::Flags;
 use super::count::Reading;
 use super::machine::{run_by, Answer, Stop};
 use super::memory::RAM_SIZE;
 use super::page::{Code, Page};
-use super::record::Record;
+use super::record::{Record, STORED};
 use super::refusal::Refusal;
 use super::rules::Rules;
+use super::short::MOST;
 
 /// The runner's budget.
 pub const BUDGET: u32 = 100_000;
@@ -81,6 +83,26 @@ fn flags(flags: Flags) -> String {
         .map(|flag| if flag { '1' } else { '0' })
         .iter()
         .collect()
+}
+
+/// What packing the stored form on standard input prints: the short form as it is,
+/// or the line of a refusal.
+pub fn packed(rules: Rules, stored: &[u8]) -> Vec<u8> {
+    let mut room = [0; MOST];
+    match (rules.short.pack)(rules, stored, &mut room) {
+        Ok(length) => room[..length].to_vec(),
+        Err(refusal) => refused(refusal).into_bytes(),
+    }
+}
+
+/// What unpacking the short form on standard input prints: the 44 bytes, or the line
+/// of a refusal.
+pub fn unpacked(rules: Rules, packed: &[u8]) -> Vec<u8> {
+    let mut room = [0; STORED];
+    match (rules.short.unpack)(rules, packed, &mut room) {
+        Ok(()) => room.to_vec(),
+        Err(refusal) => refused(refusal).into_bytes(),
+    }
 }
 
 /// The line of a refusal: its number, then a space and what it carries.

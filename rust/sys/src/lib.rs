@@ -71,6 +71,27 @@ extern "C" {
         position: *mut u32,
     ) -> u32;
 
+    /// Packs a stored form into the room: the short form at its start, and the
+    /// length of that, 0 where it is refused. The room's other bytes stay.
+    pub fn mb_raw_pack(
+        stored: *const u8,
+        stored_length: usize,
+        room: *mut u8,
+        room_length: usize,
+        length: *mut usize,
+        position: *mut u32,
+    ) -> u32;
+
+    /// Unpacks a short form into the room. Its `position` with 7 may be 0 too, which
+    /// is r0's.
+    pub fn mb_raw_unpack(
+        packed: *const u8,
+        packed_length: usize,
+        room: *mut u8,
+        room_length: usize,
+        position: *mut u32,
+    ) -> u32;
+
     /// Runs the record with a budget of steps; the five numbers say why and
     /// when it stopped.
     pub fn mb_raw_run(
