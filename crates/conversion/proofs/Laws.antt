@@ -1,23 +1,21 @@
 -- What a call of the other form's comes to as a program's output.
 use Prim.Native.Nat.{ℕ, _<_, _≤_}
-use mathlib.Core.List.{List, [], _∷_}
-use mathlib.Core.Path.{_≡_, refl, sym, ap, _∙_}
+use mathlib.Core.List.{List}
+use mathlib.Core.Path.{_≡_, sym, ap, _∙_}
 use native.Mathlib.Omega.{arith}
 use lib.ListN.{length, getD, take}
-use Rattle.refusal.specs.Refusals.{Decision, accepted, refused, decision, refusalNumber, refusalValues, decisionOf}
+use Rattle.refusal.specs.Refusals.{accepted, decision, refusalNumber, refusalValues, decisionOf}
 use Rattle.refusal.specs.declared.Refusal.{Refusal}
 use Rattle.refusal.specs.declared.Verdict.{Verdict}
 use Rattle.refusal.specs.declared.Verdict.the-variants.{Accepted, Refused}
 use Rattle.refusal.proofs.Theorems.{few-values}
 use Rattle.refusal_line.specs.RefusalLine.{refusedText}
 use Rattle.refusal_line.proofs.Lengths.{refused-length}
-use Rattle.layout.specs.StoredForm.{recordBytes, recordIn}
 use Rattle.form.specs.Storing.{loadRules}
 use Rattle.form.proofs.Decisions.{by-rest}
-use Rattle.short_layout.specs.ShortForm.{shortForm}
-use Rattle.short_form.specs.ShortStoring.{PackAnswer, seenPacked, readRules, recordShort}
+use Rattle.short_form.specs.ShortStoring.{PackAnswer, seenPacked, readRules}
 use Rattle.short_form.specs.declared.Packed.{Packed}
-use Rattle.packing.specs.Packing.{packDecision, pack, roomAfterPack, unpackDecision, roomAfterUnpack}
+use Rattle.packing.specs.Packing.{pack, roomAfterPack, unpackDecision, roomAfterUnpack}
 use Rattle.packing.proofs.Theorems.{room-of-49, form-packed, bytes-unpacked}
 use Rattle.conversion.specs.Conversion.{packed, unpacked}
 

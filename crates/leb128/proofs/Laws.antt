@@ -1,5 +1,5 @@
 -- A byte more is written or read.
-use Prim.Native.Nat.{ℕ, zero, suc, _+_, _-_, _*_, _/_, _%_, _^_, _<_, _≤_}
+use Prim.Native.Nat.{ℕ, zero, suc, _+_, _-_, _/_, _%_, _^_, _<_, _≤_}
 use mathlib.Core.Path.{_≡_, refl, sym, ap, _∙_}
 use mathlib.Core.List.{List, [], _∷_}
 use native.Mathlib.Omega.{arith}
@@ -7,10 +7,10 @@ use native.Mathlib.Nat.{pow-le-pow-right}
 use native.Mathlib.Numerals.{sub-one}
 use lib.ListN.{length, getD, take, drop}
 use lib.Seq.{getD-drop}
-use borrow.Author.Tests.{eq-eqb, ne-eqb, lt-ltb, le-ltb}
+use borrow.Author.Tests.{eq-eqb, lt-ltb, le-ltb}
 use Rattle.laws.proofs.Parts.{to-end}
 use Rattle.leb128.specs.Leb128.{leb128, NumberAnswer, number, cutOff, tooManyGroups, notShortest, below, numberIn}
-use Rattle.leb128.proofs.Theorems.{last-group, lower-group, enough, reads, above}
+use Rattle.leb128.proofs.Theorems.{last-group, lower-group, enough, reads}
 
 -- ---- writing a number of 32 bits
 

@@ -1,13 +1,13 @@
 -- A number and its groups, each law over the number of groups.
 use Prim.Native.Nat.{ℕ, zero, suc, _+_, _*_, _/_, _%_, _^_, _<_, _≤_}
-use mathlib.Core.Path.{_≡_, refl, sym, ap, _∙_}
+use mathlib.Core.Path.{_≡_, sym, ap, _∙_}
 use mathlib.Core.List.{List, [], _∷_, _++_}
 use native.Mathlib.Decide.{decLt}
 use native.Mathlib.Omega.{arith}
 use native.Mathlib.Nat.{pow-succ', one-le-pow}
 use lib.ListN.{length, getD, take}
 use borrow.Author.Tests.{ne-eqb, lt-ltb, le-ltb}
-use Rattle.leb128.specs.Leb128.{groupsOf, leb128, NumberAnswer, number, cutOff, tooManyGroups, notShortest, below, numberIn, readNumber}
+use Rattle.leb128.specs.Leb128.{groupsOf, NumberAnswer, number, cutOff, tooManyGroups, notShortest, below, numberIn}
 
 -- ---- writing
 

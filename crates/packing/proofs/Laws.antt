@@ -1,6 +1,6 @@
 -- What a stored record that is read comes to in the short form.
 use Prim.Native.Nat.{ℕ}
-use mathlib.Core.List.{List, [], _∷_, _++_}
+use mathlib.Core.List.{List, [], _∷_}
 use mathlib.Core.Path.{_≡_, refl, sym, ap, _∙_}
 use lib.ListN.{length}
 use Rattle.refusal.specs.Refusals.{Decision, accepted, decision, whenAccepted, decisionOf}

@@ -1,24 +1,22 @@
 -- From one form to the other and back: the same bytes.
 use Prim.Native.Nat.{ℕ, _<_, _≤_}
 use mathlib.Core.Path.{_≡_, refl, sym, ap, _∙_}
-use mathlib.Core.Bool.{true}
-use mathlib.Core.List.{List, [], _∷_, _++_}
+use mathlib.Core.List.{List, [], _∷_}
 use native.Mathlib.Omega.{arith}
 use lib.Dec.{eqb}
 use lib.ListN.{length, getD, take, drop}
 use lib.Seq.{take-append-seam}
-use borrow.Author.Tests.{le-ltb, eqb-true}
-use Rattle.refusal.specs.Refusals.{Decision, accepted, refused, decision, whenAccepted}
+use borrow.Author.Tests.{le-ltb}
+use Rattle.refusal.specs.Refusals.{Decision, accepted, refused, decision}
 use Rattle.refusal.proofs.Theorems.{passes, all-accepted}
-use Rattle.layout.specs.StoredForm.{storedForm, encode, decode, valuesOf, recordOf, recordBytes, recordIn, rangeRules}
+use Rattle.layout.specs.StoredForm.{storedForm, encode, decode, recordOf, recordBytes, recordIn, rangeRules}
 use Rattle.layout.proofs.Fields as Fields
 use Rattle.layout.proofs.Theorems as Layout
 use Rattle.form.specs.Storing.{loadRules}
 use Rattle.form.proofs.Ranges.{InRange, ranged}
 use Rattle.form.proofs.Decisions.{by-rest, passed}
 use Rattle.short_layout.specs.ShortForm.{shortForm, shortBytes, numbersFor, valuesFor, numbersIn}
-use Rattle.short_form.specs.ShortStoring.{roomRule, packAnswer, roomPacked, numbersOf, readRules, recordShort}
-use Rattle.short_form.proofs.Decisions.{byRoom}
+use Rattle.short_form.specs.ShortStoring.{roomRule, numbersOf, readRules, recordShort}
 use Rattle.short_form.proofs.Theorems as Short
 use Rattle.packing.specs.Packing.{packDecision, pack, roomAfterPack, unpackDecision, roomAfterUnpack}
 use Rattle.packing.proofs.Laws.{then-room-too}
@@ -85,9 +83,6 @@ module _ (packed : List ℕ) (h : (k : ℕ) → getD packed k 0 < 256) (t : deci
 module _ (stored room : List ℕ) (t : packDecision stored room ≡ accepted) where
   pub loads : decision (loadRules stored) ≡ accepted
   loads = all-accepted (loadRules stored) (roomRule (shortForm (recordIn stored)) (length room) ∷ []) t .0
-
-  pub length-packed : pack stored room .length ≡ length (shortForm (recordIn stored))
-  length-packed = rw t
 
   pub form-packed : take (pack stored room .length) (roomAfterPack stored room) ≡ shortForm (recordIn stored)
   form-packed = rw t (take-append-seam (shortForm (recordIn stored)) (drop (length (shortForm (recordIn stored))) room))

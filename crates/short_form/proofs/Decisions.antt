@@ -1,22 +1,20 @@
 -- Which calls are accepted, and what they then give.
-use Prim.Native.Nat.{ℕ, zero, suc, _+_, _*_, _-_, _^_, _<_, _≤_}
+use Prim.Native.Nat.{ℕ, zero, suc, _+_, _-_, _<_, _≤_}
 use mathlib.Core.Path.{_≡_, refl, sym, ap, _∙_}
-use mathlib.Core.Bool.{Bool, true, false, not, cond, _&&_}
-use mathlib.Core.List.{List, [], _∷_, _++_}
+use mathlib.Core.Bool.{Bool, true, false, cond, _&&_}
+use mathlib.Core.List.{List, [], _∷_}
 use native.Mathlib.Omega.{arith}
-use lib.Dec.{ltb}
-use lib.ListN.{length, getD, drop}
+use lib.ListN.{length}
 use lib.Seq.{sets-eq}
 use borrow.Author.Tests.{lt-ltb, le-ltb}
-use Rattle.refusal.specs.Refusals.{Decision, accepted, refused, rule, decision, whenAccepted, decisionOf}
+use Rattle.refusal.specs.Refusals.{Decision, accepted, refused, decision, whenAccepted, decisionOf}
 use Rattle.refusal.specs.declared.Verdict.{Verdict}
 use Rattle.refusal.proofs.Theorems.{after}
-use Rattle.state.specs.Record.{freshRecord}
 use Rattle.state.specs.declared.Record.{Record}
-use Rattle.layout.specs.StoredForm.{Field, storedForm, fieldAt, rangeRules, valuesOf, recordOf}
+use Rattle.layout.specs.StoredForm.{storedForm, fieldAt, rangeRules, valuesOf}
 use Rattle.text.specs.Text.{Puts}
-use Rattle.short_layout.specs.ShortForm.{Numbers, grouped, notGrouped, numbersIn, valuesFor, shortForm}
-use Rattle.short_form.specs.ShortStoring.{roomRule, writeRules, writeDecision, PackAnswer, packAnswer, roomPacked, groupsRule, numberRules, recordRead, readRecord}
+use Rattle.short_layout.specs.ShortForm.{grouped, notGrouped, numbersIn, shortForm}
+use Rattle.short_form.specs.ShortStoring.{roomRule, writeDecision, PackAnswer, packAnswer, roomPacked, groupsRule, numberRules, recordRead, readRecord}
 
 -- ---- tests in the code
 

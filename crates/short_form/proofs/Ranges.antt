@@ -1,19 +1,19 @@
 -- What the tests say of thirteen numbers, and of their values.
 use Prim.Native.Nat.{ℕ, _-_, _*_, _/_, _%_, _^_, _<_, _≤_}
 use mathlib.Core.Path.{_≡_, refl, sym, ap, _∙_}
-use mathlib.Core.Bool.{Bool, true, false, _&&_}
-use mathlib.Core.List.{List, []}
+use mathlib.Core.Bool.{true}
+use mathlib.Core.List.{List}
 use native.Mathlib.Decide.{ℕ-discrete, decLt}
 use native.Mathlib.Nat.{pow-le-pow-right}
 use native.Mathlib.Omega.{arith}
-use lib.Dec.{ltb, leb, eqb, lit<}
+use lib.Dec.{leb}
 use lib.ListN.{length, getD, List·getD-eq-default}
 use borrow.Author.Tests.{eqb-true, eq-eqb, leb-true, le-leb, ltb-true, lt-ltb}
 use Rattle.laws.proofs.Runs.{run}
 use Rattle.laws.proofs.Tests.{both}
 use Rattle.refusal.specs.Refusals.{accepted, decision}
 use Rattle.state.specs.FitRecord.{spInBounds, spAligned, spFits}
-use Rattle.layout.specs.StoredForm.{Test, Field, storedForm, fieldAt, widthAt, encode, recordOf, recordIn}
+use Rattle.layout.specs.StoredForm.{Field, storedForm, fieldAt, widthAt, encode, recordOf, recordIn}
 use Rattle.layout.proofs.Fields.{ValuesFit, values-fit, decode-encode}
 use Rattle.layout.proofs.Positions.{each-passes, all-pass}
 use Rattle.form.proofs.Ranges.{InRange}

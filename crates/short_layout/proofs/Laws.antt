@@ -1,7 +1,7 @@
 -- One field more is written or read.
 use Prim.Native.Nat.{ℕ, zero, suc, _+_, _-_, _<_, _≤_}
 use mathlib.Core.Path.{_≡_, refl, sym, ap, _∙_}
-use mathlib.Core.Bool.{Bool, true, false, not, cond, _||_, true≢false}
+use mathlib.Core.Bool.{Bool, true, false, cond, _||_, true≢false}
 use mathlib.Core.List.{List, [], _∷_, _++_, append-assoc, append-nil}
 use native.Mathlib.Decide.{ℕ-discrete}
 use native.Mathlib.Nat.{le-of-suc-le-suc}
@@ -9,15 +9,14 @@ use native.Mathlib.Numerals.{add-one}
 use native.Mathlib.Omega.{arith}
 use lib.Dec.{eqb}
 use lib.ListN.{length, getD, take, drop, set, length-drop}
-use lib.Seq.{take-all, take-suc-set, getD-take, getD-drop, drop-drop, drop-nil}
-use borrow.Author.Tests.{eqb-true, eq-eqb, ne-eqb}
+use lib.Seq.{take-all, take-suc-set, getD-take, getD-drop, drop-drop}
+use borrow.Author.Tests.{eq-eqb, ne-eqb}
 use Rattle.laws.proofs.Parts.{to-end}
 use Rattle.laws.proofs.Runs.{run}
-use Rattle.laws.proofs.Tests.{second}
 use Rattle.layout.specs.StoredForm.{Short, asIs, inWords, unlessNone, Field, storedForm, fieldAt}
 use Rattle.leb128.specs.Leb128.{mostGroups, NumberAnswer, number, cutOff, tooManyGroups, notShortest, readNumber}
 use Rattle.leb128.proofs.Theorems.{Reads, reads}
-use Rattle.short_layout.specs.ShortForm.{isThere, kindAmong, fieldBytes, bytesFor, shortBytes, Numbers, grouped, notGrouped, fieldIn, whenRead, numbersBehind, numbersIn}
+use Rattle.short_layout.specs.ShortForm.{isThere, kindAmong, fieldBytes, bytesFor, Numbers, grouped, notGrouped, fieldIn, whenRead, numbersBehind, numbersIn}
 
 -- ---- which fields are there
 

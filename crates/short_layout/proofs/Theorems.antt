@@ -1,6 +1,6 @@
 -- Numbers that are written are read back, and bytes that are read are what would be written; each law over any list of fields.
-use Prim.Native.Nat.{ℕ, zero, suc, _+_, _*_, _^_, _<_, _≤_}
-use mathlib.Core.Path.{_≡_, refl, sym, ap, subst, _∙_}
+use Prim.Native.Nat.{ℕ, suc, _+_, _*_, _^_, _<_, _≤_}
+use mathlib.Core.Path.{_≡_, refl, sym, ap, _∙_}
 use mathlib.Core.Bool.{Bool, true, false, not, cond, true≢false}
 use mathlib.Core.List.{List, [], _∷_, _++_, append-assoc, append-nil}
 use native.Mathlib.Decide.{ℕ-discrete}
@@ -9,7 +9,7 @@ use lib.Dec.{eqb, lit<}
 use lib.ListN.{length, getD, take, drop, length-append, take-append-drop}
 use lib.Seq.{drop-append-seam, getD-take, getD-drop}
 use borrow.Author.Tests.{not-false, eqb-true}
-use Rattle.layout.specs.StoredForm.{Short, Field, storedForm, fieldAt}
+use Rattle.layout.specs.StoredForm.{Field, storedForm, fieldAt}
 use Rattle.leb128.specs.Leb128.{mostGroups, leb128, NumberAnswer, number, cutOff, tooManyGroups, notShortest, readNumber}
 use Rattle.leb128.proofs.Theorems.{length-most, written-reads, Reads, reads}
 use Rattle.short_layout.specs.ShortForm.{isThere, kindAmong, fieldBytes, bytesFor, Numbers, grouped, notGrouped, fieldIn, whenRead, numbersBehind, numbersIn}

@@ -1,11 +1,11 @@
 -- The short stored form of a record: a number for each field of the 44-byte form, in groups of seven bits.
-use Prim.Native.Nat.{ℕ, _*_, _-_, _/_, _^_}
-use mathlib.Core.Bool.{Bool, true, not, cond, _&&_}
+use Prim.Native.Nat.{ℕ, _*_, _-_, _/_}
+use mathlib.Core.Bool.{Bool, true, not, cond}
 use mathlib.Core.List.{List, [], _∷_, _++_}
-use lib.Dec.{eqb, ltb, leb}
-use lib.ListN.{length, getD, drop}
+use lib.Dec.{eqb}
+use lib.ListN.{getD, drop}
 use Rattle.state.specs.declared.Record.{Record}
-use Rattle.layout.specs.StoredForm.{Test, Short, asIs, inWords, unlessNone, Field, storedForm, valuesOf}
+use Rattle.layout.specs.StoredForm.{Short, asIs, inWords, unlessNone, Field, storedForm, valuesOf}
 use Rattle.short_layout.specs.declared.InGroups.{InGroups}
 use Rattle.leb128.specs.Leb128.{leb128, NumberAnswer, number, cutOff, tooManyGroups, notShortest, readNumber}
 

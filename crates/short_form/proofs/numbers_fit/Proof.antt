@@ -1,14 +1,13 @@
 -- The first i numbers have passed.
-use Prim.Native.Nat.{_+_, _-_, _≤_}
-use mathlib.Core.Path.{_≡_, refl, sym, ap, _∙_}
+use Prim.Native.Nat.{_-_, _≤_}
+use mathlib.Core.Path.{_≡_, refl, sym, _∙_}
 use native.Mathlib.Numerals.{add-one}
 use native.Mathlib.Omega.{arith}
 use borrow.Author.Needs.{needs}
 use borrow.Author.Tests.{not-true, not-false}
-use lib.ListN.{length, getD, take, drop}
+use lib.ListN.{getD, take, drop}
 use Rattle.refusal.specs.Refusals.{decision}
-use Rattle.layout.specs.StoredForm.{storedForm, lengthOf, widthAt, fieldRules}
-use Rattle.layout.proofs.Fields.{length-at-most}
+use Rattle.layout.specs.StoredForm.{storedForm, lengthOf, fieldRules}
 use Rattle.layout.proofs.Laws.{next, within}
 use Rattle.layout.proofs.Positions.{next-rule}
 use Rattle.short_form.specs.ShortStoring.{numberFits, numberRules}

@@ -1,4 +1,3 @@
-use mathlib.Core.Path.{refl}
 use Rattle.short_form.proofs.of_groups.Statement.{statement}
 use Rattle.short_form.proofs.of_groups.Tie as tie
 

@@ -6,7 +6,7 @@ use borrow.Author.Needs.{needs}
 use Rattle.refusal.specs.Refusals.{accepted, decision}
 use Rattle.refusal.proofs.Theorems.{passes}
 use Rattle.layout.specs.StoredForm.{storedForm, encode, recordIn}
-use Rattle.short_form.specs.ShortStoring.{groupsRule, numberRules, recordRead}
+use Rattle.short_form.specs.ShortStoring.{groupsRule, numberRules}
 use Rattle.short_form.proofs.Ranges.{of-32-bits, sp-number, through-bytes}
 use Rattle.short_form.proofs.read_numbers.Statement.{statement}
 use Rattle.short_form.proofs.read_numbers.Tie as tie

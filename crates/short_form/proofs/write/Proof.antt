@@ -1,8 +1,7 @@
 use mathlib.Core.Path.{sym, ap, _∙_}
 use native.Mathlib.Omega.{arith}
 use borrow.Author.Needs.{needs}
-use Rattle.refusal.specs.Refusals.{refusalNumber, refusalValues}
-use Rattle.refusal.specs.declared.Verdict.the-variants.{Accepted, Refused}
+use Rattle.refusal.specs.declared.Verdict.the-variants.{Accepted}
 use Rattle.short_layout.specs.ShortForm.{numbersFor, shortBytes, shortForm}
 use Rattle.short_form.proofs.Ranges.{sp-value}
 use Rattle.short_form.proofs.Decisions.{ranged, not-written, written}

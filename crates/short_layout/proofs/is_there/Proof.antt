@@ -1,6 +1,4 @@
 use mathlib.Core.Path.{sym}
-use native.Mathlib.Omega.{arith}
-use borrow.Author.Needs.{needs}
 use Rattle.short_layout.proofs.Laws.{always-there}
 use Rattle.short_layout.proofs.is_there.Statement.{statement}
 use Rattle.short_layout.proofs.is_there.Tie as tie

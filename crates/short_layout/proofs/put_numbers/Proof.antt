@@ -4,7 +4,7 @@ use Prim.Native.Nat.{_-_, _≤_}
 use mathlib.Core.List.{[]}
 use native.Mathlib.Omega.{arith}
 use borrow.Author.Needs.{needs}
-use lib.ListN.{length, take}
+use lib.ListN.{take}
 use Rattle.layout.specs.StoredForm.{storedForm}
 use Rattle.text.specs.Text.{Puts}
 use Rattle.text.proofs.Laws.{unchanged, keeps-length, _then_}
