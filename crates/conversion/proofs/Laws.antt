@@ -1,4 +1,4 @@
--- What a call of the other form's comes to as a program's output.
+-- What packing and unpacking come to as a program's output.
 use Prim.Native.Nat.{ℕ, _<_, _≤_}
 use mathlib.Core.List.{List}
 use mathlib.Core.Path.{_≡_, sym, ap, _∙_}

@@ -12,7 +12,7 @@ use Rattle.refusal.proofs.Theorems.{passes}
 use Rattle.state.specs.Record.{freshRecord}
 use Rattle.state.specs.declared.Record.{Record}
 use Rattle.layout.specs.StoredForm.{rangeRules, recordBytes, recordIn, roomWith}
-use Rattle.form.specs.Storing.{lengthRule, formRules, storeDecision, roomAfter, LoadAnswer, loadRecord, seenReadBack}
+use Rattle.form.specs.Storing.{lengthRule, formRules, LoadAnswer, loadRecord, seenReadBack}
 use Rattle.form.specs.declared.ReadBack.{ReadBack}
 use Rattle.form.proofs.Ranges.{InRange}
 
@@ -25,11 +25,13 @@ module _ (n : ℕ) (rules : List Rule) where
   pub by-rest : n ≡ 44 → decision rules ≡ decision (lengthRule n ∷ rules)
   by-rest h = rw (eq-eqb n 44 h)
 
+-- in the code
+pub by-values : (vs values : List ℕ) (v w : Verdict) → vs ≡ values → decisionOf v ≡ decision (rangeRules vs) → v ≡ w → decisionOf w ≡ decision (rangeRules values)
+by-values vs values v w same e told = ap decisionOf (sym told) ∙ e ∙ ap (λ (xs : List ℕ). decision (rangeRules xs)) same
+
 module _ (n : ℕ) (values : List ℕ) where
-  -- in the code
   pub decided : (vs : List ℕ) (v w : Verdict) → n ≡ 44 → vs ≡ values → decisionOf v ≡ decision (rangeRules vs) → v ≡ w → decisionOf w ≡ decision (formRules n values)
-  decided vs v w h same e told =
-      ap decisionOf (sym told) ∙ e ∙ ap (λ (xs : List ℕ). decision (rangeRules xs)) same ∙ by-rest n (rangeRules values) h
+  decided vs v w h same e told = by-values vs values v w same e told ∙ by-rest n (rangeRules values) h
 
   pub passed : decision (formRules n values) ≡ accepted → (n ≡ 44) × InRange values
   passed e =
@@ -37,10 +39,6 @@ module _ (n : ℕ) (values : List ℕ) where
       (eqb-true n 44 (p .0), p .1)
 
 -- ---- what a call gives
-
-pub room-after : (r : Record) (room : List ℕ) (d : Decision) → d ≡ storeDecision r room
-    → whenAccepted d (recordBytes r) room ≡ roomAfter r room
-room-after r room d e = ap (λ (w : Decision). whenAccepted w (recordBytes r) room) e
 
 pub loaded : (bytes : List ℕ) (d : Decision) (s : Record) → d ≡ loadRecord bytes .decision
     → s ≡ whenAccepted d (recordIn bytes) freshRecord → record { decision = d; loaded = s } ≡ loadRecord bytes

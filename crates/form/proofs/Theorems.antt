@@ -10,7 +10,7 @@ use Rattle.layout.specs.StoredForm.{storedForm, decode, rangeRules, valuesOf, r
 use Rattle.layout.proofs.Theorems.{values-kept, record-kept, record-length, same-values, bytes-kept}
 use Rattle.form.specs.Storing.{loadRules, storeDecision, roomAfter, loadRecord}
 use Rattle.form.proofs.Ranges.{InRange, ranged}
-use Rattle.form.proofs.Decisions.{by-rest, passed, room-after, loaded}
+use Rattle.form.proofs.Decisions.{by-rest, passed, room-by, loaded}
 
 -- what was stored is read back
 pub stored-loads : (r : Record) (room : List ℕ) → Held r → storeDecision r room ≡ accepted → loadRecord (roomAfter r room) ≡ record { decision = accepted; loaded = r }
@@ -18,7 +18,7 @@ stored-loads r room h e =
     let bytes = recordBytes r in
     let values = decode storedForm bytes in
     let t : InRange values = ap (λ (vs : List ℕ). decision (rangeRules vs)) (values-kept r h) ∙ passed (length room) (valuesOf r) e .1 in
-    ap loadRecord (sym (room-after r room accepted (sym e)))
+    ap loadRecord (sym (room-by (rangeRules (valuesOf r)) r room accepted (sym e)))
     ∙ sym (loaded bytes accepted r (sym t ∙ by-rest (length bytes) (rangeRules values) (record-length r h)) (sym (record-kept r h)))
 
 -- what was read is in range
@@ -37,4 +37,4 @@ loaded-stores bytes room h l e =
     let same : r ≡ recordIn bytes = ap (λ (d : Decision). whenAccepted d (recordIn bytes) freshRecord) e in
     let t : InRange (valuesOf r) = ap (λ (s : Record). decision (rangeRules (valuesOf s))) same ∙ loaded-range bytes e in
     let v = sym t ∙ by-rest (length room) (rangeRules (valuesOf r)) l in
-    (sym v, sym (room-after r room accepted v) ∙ ap recordBytes same ∙ bytes-kept bytes (ranged values refl (p .1)) (p .0) h)
+    (sym v, sym (room-by (rangeRules (valuesOf r)) r room accepted v) ∙ ap recordBytes same ∙ bytes-kept bytes (ranged values refl (p .1)) (p .0) h)

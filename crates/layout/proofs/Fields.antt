@@ -89,13 +89,6 @@ decode-below (f ∷ fields) zero bytes l h = load-below (f .width) bytes 0 h
 decode-below (f ∷ fields) (suc i) bytes l h =
     decode-below fields i (drop (f .width) bytes) (le-of-suc-le-suc l) (λ k. rw getD-drop (h (f .width + k)))
 
--- ---- past the last field
-
-pub width-past : (fields : List Field) (i : ℕ) → length fields ≤ i → 0 ≡ widthAt fields i
-width-past [] i l = refl
-width-past (f ∷ fields) zero l = absurd (omega arith)
-width-past (f ∷ fields) (suc i) l = width-past fields i (le-of-suc-le-suc l)
-
 -- ---- one field more
 
 pub decode-more : (fields : List Field) (i : ℕ) (bytes : List ℕ) → i < length fields

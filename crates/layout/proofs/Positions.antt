@@ -1,4 +1,4 @@
--- The position that a refusal carries is that of the first field that fails.
+-- A table of fields: the first that fails is told by its position, and what none fails is accepted.
 use Prim.Native.Nat.{ℕ, zero, suc, _+_, _<_}
 use mathlib.Core.Bool.{true, false, not, cond}
 use mathlib.Core.List.{List, [], _∷_, _++_, map}
@@ -30,9 +30,8 @@ module _ (test : Field → Test) (n kind : ℕ) where
       let e : at + g .width + lengthOf before ≡ at + (g .width + lengthOf before) = omega arith in
       rw (all .0) (first-fails before later f passed others x (at + g .width) (all .1) fails ∙ ap (λ p. refused n (p ∷ [])) e)
 
--- ---- the tests of a table, one by one
+  -- ---- one by one
 
-module _ (test : Field → Test) (n kind : ℕ) where
   -- what is accepted has passed every one
   pub each-passes : (fields : List Field) (values : List ℕ) (at i : ℕ) → decision (fieldRules test n kind at fields values) ≡ accepted
       → i < length fields → i < length values → test (fieldAt fields i) kind (getD values i 0) ≡ true
@@ -43,11 +42,11 @@ module _ (test : Field → Test) (n kind : ℕ) where
       each-passes fields values (at + f .width) i (passes (test f kind x) n (at ∷ []) _ e .1) (le-of-suc-le-suc l) (le-of-suc-le-suc m)
 
   -- and what passes every one is accepted
-  pub all-pass : (fields : List Field) (values : List ℕ) (at : ℕ) → ((i : ℕ) → i < length fields → test (fieldAt fields i) kind (getD values i 0) ≡ true)
+  pub none-fails : (fields : List Field) (values : List ℕ) (at : ℕ) → ((i : ℕ) → i < length fields → test (fieldAt fields i) kind (getD values i 0) ≡ true)
       → decision (fieldRules test n kind at fields values) ≡ accepted
-  all-pass [] values at h = refl
-  all-pass (f ∷ fields) [] at h = refl
-  all-pass (f ∷ fields) (x ∷ values) at h = rw (h 0 (omega arith)) (all-pass fields values (at + f .width) (λ i l. h (suc i) (omega arith)))
+  none-fails [] values at h = refl
+  none-fails (f ∷ fields) [] at h = refl
+  none-fails (f ∷ fields) (x ∷ values) at h = rw (h 0 (omega arith)) (none-fails fields values (at + f .width) (λ i l. h (suc i) (omega arith)))
 
   -- the next one
   pub next-rule : (fields : List Field) (values : List ℕ) (at i : ℕ) → i < length fields → i < length values

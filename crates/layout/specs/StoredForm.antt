@@ -1,4 +1,4 @@
--- The stored form of a record: 44 bytes, a list of fields from which the positions follow.
+-- The stored form of a record: 44 bytes, a list of fields from which the positions follow. The short form is of the same list.
 use Prim.Native.Nat.{ℕ, _+_, _*_, _^_, zero, suc, _<_}
 use mathlib.Core.Bool.{Bool, true, false, not, cond}
 use mathlib.Core.List.{List, [], _∷_, _++_}
@@ -91,9 +91,7 @@ lengthOf (f ∷ fields) = f .width + lengthOf fields
 
 -- field i; past the last an empty one
 abbrev pub fieldAt : List Field → ℕ → Field
-fieldAt [] i = field 0 anyValue anyValue asIs
-fieldAt (f ∷ fields) zero = f
-fieldAt (f ∷ fields) (suc i) = fieldAt fields i
+fieldAt fields i = getD fields i (field 0 anyValue anyValue asIs)
 
 abbrev pub widthAt : List Field → ℕ → ℕ
 widthAt fields i = fieldAt fields i .width

@@ -45,7 +45,7 @@ last-read (suc n) (b ∷ bytes) p q l = rw (lt-ltb b 128 l)
 abbrev pub others : List ℕ → List ℕ
 others bytes = take (length bytes - 1) (drop 1 bytes)
 
--- by what they say
+-- a group below those that the other bytes hold
 pub lower-read : (n : ℕ) (bytes : List ℕ) (a : NumberAnswer) → 0 < n → 0 < length bytes → 128 ≤ getD bytes 0 0 → a ≡ numberIn (n - 1) (others bytes)
     → below a (getD bytes 0 0 % 128) ≡ numberIn n bytes
 unfolding numberIn
@@ -53,7 +53,7 @@ lower-read zero bytes a p q l e = absurd (omega arith)
 lower-read (suc n) [] a p q l e = absurd (omega arith)
 lower-read (suc n) (b ∷ bytes) a p q l e = rw (le-ltb b 128 l, e, sub-one (suc n), to-end (b ∷ bytes) 1)
 
--- where there are no others, the group would have been the last
+-- where those are 0, the group would have been the last
 pub shorter : (x n group : ℕ) → x ≡ 0 → notShortest ≡ below (number x n) group
 shorter x n group z = rw (eq-eqb x 0 z)
 

@@ -4,8 +4,7 @@ use mathlib.Core.Path.{_≡_, refl, sym, ap, _∙_}
 use mathlib.Core.List.{List, [], _∷_}
 use native.Mathlib.Omega.{arith}
 use lib.Dec.{eqb}
-use lib.ListN.{length, getD, take, drop}
-use lib.Seq.{take-append-seam}
+use lib.ListN.{length, getD, take}
 use borrow.Author.Tests.{le-ltb}
 use Rattle.refusal.specs.Refusals.{Decision, accepted, refused, decision}
 use Rattle.refusal.proofs.Theorems.{passes, all-accepted}
@@ -17,9 +16,9 @@ use Rattle.form.proofs.Ranges.{InRange, ranged}
 use Rattle.form.proofs.Decisions.{by-rest, passed}
 use Rattle.short_layout.specs.ShortForm.{shortForm, shortBytes, numbersFor, valuesFor, numbersIn}
 use Rattle.short_form.specs.ShortStoring.{roomRule, numbersOf, readRules, recordShort}
+use Rattle.short_form.proofs.Decisions.{then-room, form-is}
 use Rattle.short_form.proofs.Theorems as Short
 use Rattle.packing.specs.Packing.{packDecision, pack, roomAfterPack, unpackDecision, roomAfterUnpack}
-use Rattle.packing.proofs.Laws.{then-room-too}
 
 -- ---- a stored form that is accepted
 
@@ -33,18 +32,18 @@ module _ (stored : List ℕ) (h : (k : ℕ) → getD stored k 0 < 256) (t : deci
   fits : Fields.ValuesFit storedForm values
   fits = Fields.values-fit storedForm values refl (λ i m. Fields.decode-below storedForm i stored m h)
 
-  form-is : shortForm (recordIn stored) ≡ shortBytes (numbersFor values)
+  short-is : shortForm (recordIn stored) ≡ shortBytes (numbersFor values)
   unfolding shortForm
-  form-is = ap (λ (vs : List ℕ). shortBytes (numbersFor vs)) (Layout.same-values stored (ranged values refl in-range))
+  short-is = ap (λ (vs : List ℕ). shortBytes (numbersFor vs)) (Layout.same-values stored (ranged values refl in-range))
 
   -- its short form is accepted, and holds the same record
   pub short-reads : (decision (readRules (shortForm (recordIn stored))) ≡ accepted) × (recordShort (shortForm (recordIn stored)) ≡ recordIn stored)
-  short-reads = rw form-is (Short.values-kept values fits in-range)
+  short-reads = rw short-is (Short.values-kept values fits in-range)
 
   pub short-length : (12 ≤ length (shortForm (recordIn stored))) × (length (shortForm (recordIn stored)) ≤ 49)
-  short-length = rw form-is (Short.lengths values fits in-range)
+  short-length = rw short-is (Short.lengths values fits in-range)
 
-  stored-back : recordBytes (recordIn stored) ≡ stored
+  pub stored-back : recordBytes (recordIn stored) ≡ stored
   stored-back = Layout.bytes-kept stored (ranged values refl in-range) (passed (length stored) values t .0) h
 
 -- ---- a short form that is accepted
@@ -85,11 +84,11 @@ module _ (stored room : List ℕ) (t : packDecision stored room ≡ accepted) wh
   loads = all-accepted (loadRules stored) (roomRule (shortForm (recordIn stored)) (length room) ∷ []) t .0
 
   pub form-packed : take (pack stored room .length) (roomAfterPack stored room) ≡ shortForm (recordIn stored)
-  form-packed = rw t (take-append-seam (shortForm (recordIn stored)) (drop (length (shortForm (recordIn stored))) room))
+  form-packed = form-is (shortForm (recordIn stored)) room (roomAfterPack stored room) (packDecision stored room) (pack stored room) refl refl t
 
 -- and is accepted where there is room for it
 pub with-room : (stored room : List ℕ) → decision (loadRules stored) ≡ accepted → length (shortForm (recordIn stored)) ≤ length room → packDecision stored room ≡ accepted
-with-room stored room t l = then-room-too stored room accepted (sym t) ∙ rw (le-ltb (length room) (length (shortForm (recordIn stored))) l)
+with-room stored room t l = then-room (loadRules stored) (shortForm (recordIn stored)) room accepted (sym t) ∙ rw (le-ltb (length room) (length (shortForm (recordIn stored))) l)
 
 -- in 49 bytes there always is
 pub room-of-49 : (stored room : List ℕ) → ((k : ℕ) → getD stored k 0 < 256) → 49 ≤ length room → packDecision stored room ≡ decision (loadRules stored)
@@ -97,7 +96,7 @@ room-of-49 stored room h l = by-decision (decision (loadRules stored)) refl
   where
     by-decision : (d : Decision) → decision (loadRules stored) ≡ d → packDecision stored room ≡ decision (loadRules stored)
     by-decision accepted e = with-room stored room e (omega (arith, short-length stored h e .1)) ∙ sym e
-    by-decision (refused n values) e = then-room-too stored room (refused n values) (sym e) ∙ sym e
+    by-decision (refused n values) e = then-room (loadRules stored) (shortForm (recordIn stored)) room (refused n values) (sym e) ∙ sym e
 
 module _ (packed room : List ℕ) (t : unpackDecision packed room ≡ accepted) where
   pub reads : decision (readRules packed) ≡ accepted

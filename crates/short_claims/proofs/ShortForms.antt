@@ -4,8 +4,7 @@ use mathlib.Core.Path.{_≡_, refl, sym, ap, _∙_}
 use mathlib.Core.Bool.{Bool, true, false, cond, true≢false}
 use mathlib.Core.List.{List, [], _∷_, _++_}
 use lib.Dec.{ltb}
-use lib.ListN.{length, take, drop}
-use lib.Seq.{take-append-seam, drop-append-seam}
+use lib.ListN.{length, drop}
 use borrow.Author.Tests.{le-ltb, ltb-false}
 use Rattle.refusal.specs.Refusals.{Decision, accepted, refused, decision, isAccepted, whenAccepted, decisionOf}
 use Rattle.refusal.proofs.Theorems.{all-accepted}
@@ -16,35 +15,18 @@ use Rattle.form.specs.Storing.{LoadAnswer, loadRules}
 use Rattle.form.proofs.Ranges.{InRange}
 use Rattle.short_layout.specs.ShortForm.{shortForm}
 use Rattle.short_form.specs.ShortStoring.{roomRule, writeDecision, PackAnswer, packAnswer, roomPacked, seenPacked, readRules, readRecord, recordShort}
-use Rattle.short_form.proofs.Decisions.{byRoom, then-room}
+use Rattle.short_form.proofs.Decisions.{byRoom, then-room, accepts, left-is, form-is}
 use Rattle.short_form.proofs.Theorems as Short
 use Rattle.packing.specs.Packing.{packDecision, pack, roomAfterPack, unpackDecision, roomAfterUnpack}
 use Rattle.packing.proofs.Theorems as Packing
-use Rattle.short_claims.specs.ShortForms.{PackCall, UnpackCall, WriteCall, ReadCall, stored, packRoom, packLeft, packedBy, packAccepts, short, unpackRoom, unpackLeft, unpackAccepts, written, writeRoom, writeLeft, writtenBy, writeAccepts, readFrom, readAnswer, Stands, ShortForms}
+use Rattle.conversion.proofs.Theorems.{packed-back, unpacked-back}
+use Rattle.short_claims.specs.ShortForms.{PackCall, UnpackCall, WriteCall, ReadCall, stored, packRoom, packLeft, packedBy, packAccepts, short, unpackRoom, unpackLeft, unpackAccepts, written, writeRoom, writeLeft, writtenBy, writeAccepts, readFrom, readAnswer, WrittenTo, ShortForms}
 
 -- ---- a form in its room
 
--- an answer that accepts, and the room that it left
-module _ (form room left : List ℕ) (d : Decision) (a : PackAnswer) (e : a ≡ packAnswer d form) (f : left ≡ roomPacked d form room) (t : a .decision ≡ accepted) where
-  pub accepts : d ≡ accepted
-  accepts = sym (ap (λ (x : PackAnswer). x .decision) e) ∙ t
-
-  pub length-is : a .length ≡ length form
-  length-is = ap (λ (x : PackAnswer). x .length) e ∙ ap (λ (w : Decision). whenAccepted w (length form) 0) accepts
-
-  left-is : left ≡ form ++ drop (length form) room
-  left-is = f ∙ ap (λ (w : Decision). roomPacked w form room) accepts
-
-  pub form-is : take (a .length) left ≡ form
-  form-is = rw (length-is, left-is) (take-append-seam form (drop (length form) room))
-
-  pub stands : 12 ≤ length form → length form ≤ 49 → length form ≤ length room → Stands (a .length) room left
-  stands low high fits = record {
-    at-least = rw length-is low;
-    at-most = rw length-is high;
-    inside = rw length-is fits;
-    others = rw (length-is, left-is) (drop-append-seam form (drop (length form) room));
-  }
+leaves : (form room left packed : List ℕ) → left ≡ form ++ drop (length form) room → packed ≡ form → 12 ≤ length form → length form ≤ 49 → length form ≤ length room
+    → WrittenTo packed room left
+leaves form room left packed e f low high fits = rw f (record { at-least = low; at-most = high; inside = fits; whole = e })
 
 -- the room that is tested last is long enough
 room-fits : (form room : List ℕ) → byRoom form room ≡ accepted → length form ≤ length room
@@ -81,12 +63,12 @@ module _ (p : PackCall) (t : packAccepts p) where
   packed-form : packedBy p ≡ form
   packed-form = form-is form (packRoom p) (packLeft p) _ _ (packs p .0) (packs p .1) t
 
-  pack-stands : Stands (p .answer .length) (packRoom p) (packLeft p)
-  pack-stands =
+  pack-leaves : WrittenTo (packedBy p) (packRoom p) (packLeft p)
+  pack-leaves =
       let loads = Packing.loads (stored p) (packRoom p) packed in
       let n = Packing.short-length (stored p) (p .bytes) loads in
       let rules = all-accepted (loadRules (stored p)) (roomRule form (length (packRoom p)) ∷ []) packed in
-      stands form (packRoom p) (packLeft p) _ _ (packs p .0) (packs p .1) t (n .0) (n .1) (room-fits form (packRoom p) (rules .1))
+      leaves form (packRoom p) (packLeft p) (packedBy p) (left-is form (packRoom p) (packLeft p) _ _ (packs p .0) (packs p .1) t) packed-form (n .0) (n .1) (room-fits form (packRoom p) (rules .1))
 
 out-and-back : (p : PackCall) (u : UnpackCall) → packAccepts p → short u ≡ packedBy p → length (unpackRoom u) ≡ 44 → unpackAccepts u × (unpackLeft u ≡ stored p)
 out-and-back p u t e l =
@@ -116,10 +98,10 @@ module _ (w : WriteCall) (t : writeAccepts w) where
   tables : InRange (valuesOf (written w)) × (byRoom (shortForm (written w)) (writeRoom w) ≡ accepted)
   tables = all-accepted (rangeRules (valuesOf (written w))) (roomRule (shortForm (written w)) (length (writeRoom w)) ∷ []) write-accepted
 
-  write-stands : Stands (w .answer .length) (writeRoom w) (writeLeft w)
-  write-stands =
+  write-leaves : WrittenTo (writtenBy w) (writeRoom w) (writeLeft w)
+  write-leaves =
       let n = Short.form-length (written w) (w .held) (tables .0) in
-      stands (shortForm (written w)) (writeRoom w) (writeLeft w) _ _ (writes w .0) (writes w .1) t (n .0) (n .1) (room-fits (shortForm (written w)) (writeRoom w) (tables .1))
+      leaves (shortForm (written w)) (writeRoom w) (writeLeft w) (writtenBy w) (left-is (shortForm (written w)) (writeRoom w) (writeLeft w) _ _ (writes w .0) (writes w .1) t) written-form (n .0) (n .1) (room-fits (shortForm (written w)) (writeRoom w) (tables .1))
 
 written-reads : (w : WriteCall) (r : ReadCall) → writeAccepts w → readFrom r ≡ writtenBy w → readAnswer r ≡ record { decision = accepted; loaded = written w }
 written-reads w r t e =
@@ -136,7 +118,7 @@ read-writes r w t e l =
     let range : InRange (valuesOf (written w)) =
     ap (λ (s : Record). decision (rangeRules (valuesOf s))) same ∙ Short.range-kept (readFrom r) (r .bytes) d in
     let accepted-too : writeDecision (written w) (writeRoom w) ≡ accepted =
-    then-room (written w) (writeRoom w) accepted (sym range) ∙ rw (form, le-ltb (length (writeRoom w)) (length (readFrom r)) l) in
+    then-room (rangeRules (valuesOf (written w))) (shortForm (written w)) (writeRoom w) accepted (sym range) ∙ rw (form, le-ltb (length (writeRoom w)) (length (readFrom r)) l) in
     let accepts : writeAccepts w = ap (λ (a : PackAnswer). a .decision) (writes w .0) ∙ accepted-too in
     (accepts, written-form w accepts ∙ form)
 
@@ -145,13 +127,19 @@ read-writes r w t e l =
 unpack-length : (u : UnpackCall) → unpackAccepts u → (12 ≤ length (short u)) × (length (short u) ≤ 49)
 unpack-length u t = Packing.packed-length (short u) (u .bytes) (Packing.reads (short u) (unpackRoom u) (sym (unpacks u .0) ∙ t))
 
+read-length : (r : ReadCall) → readAnswer r .decision ≡ accepted → (12 ≤ length (readFrom r)) × (length (readFrom r) ≤ 49)
+read-length r t = Packing.packed-length (readFrom r) (r .bytes) (sym (ap (λ (a : LoadAnswer). a .decision) (reads r)) ∙ t)
+
 pub short-forms : ShortForms
 short-forms = record {
   out-and-back = out-and-back;
   in-and-out = in-and-out;
+  programs-out = packed-back;
+  programs-in = unpacked-back;
   written-reads = written-reads;
   read-writes = read-writes;
-  pack-stands = pack-stands;
-  write-stands = write-stands;
+  pack-leaves = pack-leaves;
+  write-leaves = write-leaves;
   unpack-length = unpack-length;
+  read-length = read-length;
 }

@@ -1,43 +1,19 @@
 -- Which calls are accepted, and what they then give.
-use Prim.Native.Nat.{ℕ, zero, suc, _+_, _-_, _<_, _≤_}
+use Prim.Native.Nat.{ℕ, _+_, _-_, _<_, _≤_}
 use mathlib.Core.Path.{_≡_, refl, sym, ap, _∙_}
-use mathlib.Core.Bool.{Bool, true, false, cond, _&&_}
-use mathlib.Core.List.{List, [], _∷_}
+use mathlib.Core.List.{List, [], _∷_, _++_}
 use native.Mathlib.Omega.{arith}
-use lib.ListN.{length}
-use lib.Seq.{sets-eq}
+use lib.ListN.{length, take, drop}
+use lib.Seq.{sets-eq, take-append-seam}
 use borrow.Author.Tests.{lt-ltb, le-ltb}
-use Rattle.refusal.specs.Refusals.{Decision, accepted, refused, decision, whenAccepted, decisionOf}
-use Rattle.refusal.specs.declared.Verdict.{Verdict}
+use Rattle.refusal.specs.Refusals.{Decision, accepted, refused, Rule, decision, whenAccepted}
 use Rattle.refusal.proofs.Theorems.{after}
 use Rattle.state.specs.declared.Record.{Record}
-use Rattle.layout.specs.StoredForm.{storedForm, fieldAt, rangeRules, valuesOf}
+use Rattle.layout.specs.StoredForm.{rangeRules, valuesOf}
 use Rattle.text.specs.Text.{Puts}
-use Rattle.short_layout.specs.ShortForm.{grouped, notGrouped, numbersIn, shortForm}
+use Rattle.short_layout.specs.declared.InGroups.{InGroups}
+use Rattle.short_layout.specs.ShortForm.{shortForm, Numbers, grouped, notGrouped, numbersIn, heldBy}
 use Rattle.short_form.specs.ShortStoring.{roomRule, writeDecision, PackAnswer, packAnswer, roomPacked, groupsRule, numberRules, recordRead, readRecord}
-
--- ---- tests in the code
-
-pub implied : (a b : Bool) → (b ≡ true → a ≡ true) → b ≡ (a && b)
-implied true b h = refl
-implied false true h = sym (h refl)
-implied false false h = refl
-
-pub implies : (a b : Bool) → (a ≡ true → b ≡ true) → a ≡ (a && b)
-implies true b h = sym (h refl)
-implies false b h = refl
-
--- r0 to r7 are alike
-pub register : (i : ℕ) → i < 8 → fieldAt storedForm i ≡ fieldAt storedForm 0
-register zero l = refl
-register (suc zero) l = refl
-register (suc (suc zero)) l = refl
-register (suc (suc (suc zero))) l = refl
-register (suc (suc (suc (suc zero)))) l = refl
-register (suc (suc (suc (suc (suc zero))))) l = refl
-register (suc (suc (suc (suc (suc (suc zero)))))) l = refl
-register (suc (suc (suc (suc (suc (suc (suc zero))))))) l = refl
-register (suc (suc (suc (suc (suc (suc (suc (suc i)))))))) l = absurd (omega arith)
 
 -- ---- writing
 
@@ -57,30 +33,46 @@ module _ (form room : List ℕ) where
       let z : 0 + length form ≡ length form = omega arith in
       rw (le-ltb (length room) (length form) fits, e) (refl, p .after-is ∙ sets-eq form room 0 (omega arith) ∙ rw z)
 
-module _ (r : Record) (room : List ℕ) (d : Decision) (e : d ≡ decision (rangeRules (valuesOf r))) where
-  -- the room is looked at last
-  pub then-room : writeDecision r room ≡ whenAccepted d (byRoom (shortForm r) room) d
-  then-room = after (rangeRules (valuesOf r)) (roomRule (shortForm r) (length room) ∷ []) d e
+-- a table that ends with the room
+module _ (rules : List Rule) (form room : List ℕ) where
+  abbrev withRoom : Decision
+  withRoom = decision (rules ++ (roomRule form (length room) ∷ []))
 
--- in the code
-pub ranged : (r : Record) (values : List ℕ) (v w : Verdict) → values ≡ valuesOf r → decisionOf v ≡ decision (rangeRules values) → v ≡ w
-    → decisionOf w ≡ decision (rangeRules (valuesOf r))
-ranged r values v w same e told = ap decisionOf (sym told) ∙ e ∙ ap (λ (xs : List ℕ). decision (rangeRules xs)) same
+  pub then-room : (d : Decision) → d ≡ decision rules → withRoom ≡ whenAccepted d (byRoom form room) d
+  then-room d e = after rules (roomRule form (length room) ∷ []) d e
 
-module _ (r : Record) (room : List ℕ) where
-  pub not-written : (n : ℕ) (values : List ℕ) → refused n values ≡ decision (rangeRules (valuesOf r))
-      → (record { decision = refused n values; length = 0 } ≡ packAnswer (writeDecision r room) (shortForm r)) × (room ≡ roomPacked (writeDecision r room) (shortForm r) room)
-  not-written n values e = rw (then-room r room (refused n values) e) (refl, refl)
+  pub not-put : (n : ℕ) (values : List ℕ) → refused n values ≡ decision rules
+      → (record { decision = refused n values; length = 0 } ≡ packAnswer withRoom form) × (room ≡ roomPacked withRoom form room)
+  not-put n values e = rw (then-room (refused n values) e) (refl, refl)
 
-  pub written : (form after : List ℕ) (a : PackAnswer) → accepted ≡ decision (rangeRules (valuesOf r)) → form ≡ shortForm r
-      → (a ≡ packAnswer (byRoom form room) form) × (after ≡ roomPacked (byRoom form room) form room)
-      → (a ≡ packAnswer (writeDecision r room) (shortForm r)) × (after ≡ roomPacked (writeDecision r room) (shortForm r) room)
-  written form after a e f given = rw (then-room r room accepted e, ← f) given
+-- an answer that accepts, and the room that it left
+module _ (form room left : List ℕ) (d : Decision) (a : PackAnswer) (e : a ≡ packAnswer d form) (f : left ≡ roomPacked d form room) (t : a .decision ≡ accepted) where
+  pub accepts : d ≡ accepted
+  accepts = sym (ap (λ (x : PackAnswer). x .decision) e) ∙ t
+
+  length-is : a .length ≡ length form
+  length-is = ap (λ (x : PackAnswer). x .length) e ∙ ap (λ (w : Decision). whenAccepted w (length form) 0) accepts
+
+  pub left-is : left ≡ form ++ drop (length form) room
+  left-is = f ∙ ap (λ (w : Decision). roomPacked w form room) accepts
+
+  pub form-is : take (a .length) left ≡ form
+  form-is = rw (length-is, left-is) (take-append-seam form (drop (length form) room))
+
+-- a record in range is decided by the room
+pub written : (r : Record) (room form after : List ℕ) (a : PackAnswer) → accepted ≡ decision (rangeRules (valuesOf r)) → form ≡ shortForm r
+    → (a ≡ packAnswer (byRoom form room) form) × (after ≡ roomPacked (byRoom form room) form room)
+    → (a ≡ packAnswer (writeDecision r room) (shortForm r)) × (after ≡ roomPacked (writeDecision r room) (shortForm r) room)
+written r room form after a e f given = rw (then-room (rangeRules (valuesOf r)) (shortForm r) room accepted e, ← f) given
 
 -- ---- reading
 
--- as the code holds the numbers: where they aren't grouped, some may be told, and none is looked at
-pub by-groups : (bytes : List ℕ) (g : Bool) (numbers : List ℕ) → cond g (grouped numbers) notGrouped ≡ numbersIn bytes
-    → recordRead (decision (groupsRule g ∷ numberRules numbers)) numbers ≡ readRecord bytes
-by-groups bytes true numbers e = rw (← e)
-by-groups bytes false numbers e = rw (← e)
+by-groups : (bytes : List ℕ) (ns : Numbers) → numbersIn bytes ≡ ns
+    → recordRead (decision (groupsRule (heldBy ns .grouped) ∷ numberRules (heldBy ns .numbers))) (heldBy ns .numbers) ≡ readRecord bytes
+by-groups bytes (grouped numbers) e = rw e
+by-groups bytes notGrouped e = rw e
+
+-- as the code holds the numbers
+pub by-held : (bytes : List ℕ) (a : InGroups) → a ≡ heldBy (numbersIn bytes)
+    → recordRead (decision (groupsRule (a .grouped) ∷ numberRules (a .numbers))) (a .numbers) ≡ readRecord bytes
+by-held bytes a e = rw e (by-groups bytes (numbersIn bytes) refl)

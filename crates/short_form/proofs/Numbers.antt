@@ -43,6 +43,18 @@ each-back g h (f ∷ fields) (x ∷ xs) l back = rw (back 0 (omega arith), each-
 
 -- ---- the fields of the stored form
 
+-- r0 to r7 are alike
+pub register : (i : ℕ) → i < 8 → fieldAt storedForm i ≡ fieldAt storedForm 0
+register zero l = refl
+register (suc zero) l = refl
+register (suc (suc zero)) l = refl
+register (suc (suc (suc zero))) l = refl
+register (suc (suc (suc (suc zero)))) l = refl
+register (suc (suc (suc (suc (suc zero))))) l = refl
+register (suc (suc (suc (suc (suc (suc zero)))))) l = refl
+register (suc (suc (suc (suc (suc (suc (suc zero))))))) l = refl
+register (suc (suc (suc (suc (suc (suc (suc (suc i)))))))) l = absurd (omega arith)
+
 abbrev isInWords : Short → Bool
 isInWords asIs = false
 isInWords inWords = true

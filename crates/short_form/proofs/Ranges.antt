@@ -15,7 +15,7 @@ use Rattle.refusal.specs.Refusals.{accepted, decision}
 use Rattle.state.specs.FitRecord.{spInBounds, spAligned, spFits}
 use Rattle.layout.specs.StoredForm.{Field, storedForm, fieldAt, widthAt, encode, recordOf, recordIn}
 use Rattle.layout.proofs.Fields.{ValuesFit, values-fit, decode-encode}
-use Rattle.layout.proofs.Positions.{each-passes, all-pass}
+use Rattle.layout.proofs.Positions.{each-passes, none-fails}
 use Rattle.form.proofs.Ranges.{InRange}
 use Rattle.short_layout.specs.ShortForm.{numberFor, valueFor, numbersFor, valuesFor}
 use Rattle.short_form.specs.ShortStoring.{withinField, numberFits, numberRules}
@@ -71,7 +71,7 @@ module _ (numbers : List ℕ) (l : length numbers ≡ 13) (t : decision (numberR
   value-at i m = at-field valueFor storedForm numbers i m (omega arith)
 
   pub values-in-range : InRange (valuesFor numbers)
-  values-in-range = all-pass (λ (f : Field). f .range) 7 (getD (valuesFor numbers) 9 0) storedForm (valuesFor numbers) 0 (λ i m. rw (value-at 9 (omega arith), value-at i m) (passed i m .1))
+  values-in-range = none-fails (λ (f : Field). f .range) 7 (getD (valuesFor numbers) 9 0) storedForm (valuesFor numbers) 0 (λ i m. rw (value-at 9 (omega arith), value-at i m) (passed i m .1))
 
   pub values-length : length (valuesFor numbers) ≡ 13
   unfolding valuesFor
@@ -118,7 +118,7 @@ module _ (values : List ℕ) (l : length values ≡ 13) (t : InRange values) (fi
   ]
 
   pub numbers-accepted : decision (numberRules (numbersFor values)) ≡ accepted
-  numbers-accepted = all-pass numberFits 7 (getD (numbersFor values) 9 0) storedForm (numbersFor values) 0 (λ i m. rw (number-at 9 (omega arith), number-at i m) (number-fits i m))
+  numbers-accepted = none-fails numberFits 7 (getD (numbersFor values) 9 0) storedForm (numbersFor values) 0 (λ i m. rw (number-at 9 (omega arith), number-at i m) (number-fits i m))
 
   pub no-number-for-none : getD (numbersFor values) 9 0 ≡ 0 → getD (numbersFor values) 10 0 ≡ 0
   no-number-for-none e = number-at 10 (omega arith) ∙ none-at-0 values l t (sym (number-at 9 (omega arith)) ∙ e)

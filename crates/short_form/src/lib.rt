@@ -1,4 +1,4 @@
-// The short stored form of a record: thirteen numbers in groups of seven bits, of which the offset is left out for base kind 0.
+// A record in the short stored form: the range of each number, refusals, and the room.
 ghost use mathlib.Core.Path.{_≡_};
 ghost use Prim.Native.Nat.{ℕ, _<_, _≤_, _^_};
 ghost use mathlib.Core.List.{[], _∷_};
@@ -23,7 +23,7 @@ pub struct Packed {
 // ---- writing
 
 // SP becomes the number of words up to 0x18000.
-fn numbers_of(values: [u32; 13]) -> [u32; 13]
+fn numbers_for(values: [u32; 13]) -> [u32; 13]
     requires { ⌜ getD values 8 0 ≤ 0x18000 ⌝ }
     ensures { λ numbers. ⌜ numbers ≡ numbersFor values ⌝ }
 {
@@ -34,7 +34,7 @@ fn numbers_of(values: [u32; 13]) -> [u32; 13]
 
 // The form is made beside the room first, for its length: it goes to the room whole or not at all. Thirteen numbers of five groups
 // are 65 bytes.
-fn place(numbers: [u32; 13], room: &mut [u8]) -> Packed
+fn put_form(numbers: [u32; 13], room: &mut [u8]) -> Packed
     ensures { λ a. ⌜ (seenPacked a ≡ packAnswer (decision (roomRule (shortBytes numbers) (length (now (room .entry))) ∷ [])) (shortBytes numbers))
         × (now (room .exit) ≡ roomPacked (decision (roomRule (shortBytes numbers) (length (now (room .entry))) ∷ [])) (shortBytes numbers) (now (room .entry))) ⌝ }
 {
@@ -65,7 +65,7 @@ pub fn write(r: Record, room: &mut [u8]) -> Packed
             verdict: Verdict::Refused(why),
             length: 0,
         },
-        Verdict::Accepted => place(numbers_of(values), room),
+        Verdict::Accepted => put_form(numbers_for(values), room),
     }
 }
 
@@ -113,8 +113,8 @@ fn numbers_fit(numbers: [u64; 13]) -> Verdict
     Verdict::Accepted
 }
 
-// Numbers that are in range are values, but for SP.
-fn values_of(numbers: [u64; 13]) -> [u32; 13]
+// The values of numbers in range; only SP differs.
+fn values_for(numbers: [u64; 13]) -> [u32; 13]
     requires { ⌜ ((k : ℕ) → getD numbers k 0 < 2 ^ 32) × (getD numbers 8 0 ≤ 8192) ⌝ }
     ensures { λ values. ⌜ values ≡ valuesFor numbers ⌝ }
 {
@@ -128,7 +128,7 @@ fn values_of(numbers: [u64; 13]) -> [u32; 13]
     values
 }
 
-fn of_groups(grouped: bool) -> Verdict
+fn groups_verdict(grouped: bool) -> Verdict
     ensures { λ v. ⌜ decisionOf v ≡ decision (groupsRule grouped ∷ []) ⌝ }
 {
     if grouped {
@@ -141,7 +141,7 @@ fn of_groups(grouped: bool) -> Verdict
 fn verdict_of(grouped: bool, numbers: [u64; 13]) -> Verdict
     ensures { λ v. ⌜ decisionOf v ≡ decision (groupsRule grouped ∷ numberRules numbers) ⌝ }
 {
-    let groups = of_groups(grouped);
+    let groups = groups_verdict(grouped);
     let range = numbers_fit(numbers);
     refusal::first_of(groups, range)
 }
@@ -157,7 +157,7 @@ fn read_numbers(grouped: bool, numbers: [u64; 13]) -> ReadBack
         },
         Verdict::Accepted => ReadBack {
             verdict: Verdict::Accepted,
-            loaded: layout::record_with(values_of(numbers)),
+            loaded: layout::record_with(values_for(numbers)),
         },
     }
 }

@@ -1,9 +1,9 @@
 -- The short stored form of a record: a number for each field of the 44-byte form, in groups of seven bits.
 use Prim.Native.Nat.{ℕ, _*_, _-_, _/_}
-use mathlib.Core.Bool.{Bool, true, not, cond}
+use mathlib.Core.Bool.{Bool, true, false, not, cond}
 use mathlib.Core.List.{List, [], _∷_, _++_}
 use lib.Dec.{eqb}
-use lib.ListN.{getD, drop}
+use lib.ListN.{getD, drop, replicate}
 use Rattle.state.specs.declared.Record.{Record}
 use Rattle.layout.specs.StoredForm.{Short, asIs, inWords, unlessNone, Field, storedForm, valuesOf}
 use Rattle.short_layout.specs.declared.InGroups.{InGroups}
@@ -52,7 +52,7 @@ kindAmong before = getD before 9 0
 unfoldable pub fieldBytes : Short → ℕ → ℕ → List ℕ
 fieldBytes s kind n = cond (isThere s kind) (leb128 n) []
 
--- the bytes of the fields behind some numbers
+-- the bytes of some fields' numbers, which stand behind others
 unfoldable pub bytesFor : List Field → List ℕ → List ℕ → List ℕ
 bytesFor [] before numbers = []
 bytesFor (f ∷ fields) before [] = []
@@ -67,7 +67,7 @@ shortForm r = shortBytes (numbersFor (valuesOf r))
 
 -- ---- bytes to numbers
 
--- the numbers that some bytes hold, or that they aren't such numbers, all of them there and nothing behind them
+-- the numbers that some bytes hold, all of them there and nothing behind them; or that the bytes aren't such
 pub data Numbers : Type 0 where
   grouped : List ℕ → Numbers
   notGrouped : Numbers
@@ -83,7 +83,7 @@ whenRead cutOff next = notGrouped
 whenRead tooManyGroups next = notGrouped
 whenRead notShortest next = notGrouped
 
--- the fields behind some numbers
+-- the numbers of some fields, which stand behind others; nothing may follow the last
 unfoldable pub numbersBehind : List Field → List ℕ → List ℕ → Numbers
 numbersBehind [] before [] = grouped before
 numbersBehind [] before (b ∷ bytes) = notGrouped
@@ -95,5 +95,7 @@ numbersIn bytes = numbersBehind storedForm [] bytes
 
 -- ---- the code's answer
 
-abbrev pub seenNumbers : InGroups → Numbers
-seenNumbers a = cond (a .grouped) (grouped (a .numbers)) notGrouped
+-- where the bytes aren't such, all numbers are 0
+abbrev pub heldBy : Numbers → InGroups
+heldBy (grouped numbers) = record { grouped = true; numbers = numbers }
+heldBy notGrouped = record { grouped = false; numbers = replicate 13 0 }

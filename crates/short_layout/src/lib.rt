@@ -1,13 +1,13 @@
-// The bytes of the short stored form: thirteen numbers in groups of seven bits, of which the offset is left out for base kind 0.
+// Thirteen numbers to the bytes of the short stored form and back. The offset is left out for base kind 0.
 ghost use mathlib.Core.Path.{_≡_};
 ghost use Prim.Native.Nat.{_<_};
 ghost use Rattle.layout.specs.StoredForm.{storedForm, fieldAt};
 ghost use Rattle.text.specs.Text.{Puts};
 ghost use Rattle.leb128.specs.Leb128.{seenFound};
-ghost use Rattle.short_layout.specs.ShortForm.{isThere, fieldBytes, shortBytes, fieldIn, numbersIn, seenNumbers};
+ghost use Rattle.short_layout.specs.ShortForm.{isThere, fieldBytes, shortBytes, fieldIn, notGrouped, numbersIn, heldBy};
 use leb128::Found;
 
-// Thirteen numbers, if the bytes are such.
+// Whether bytes are a short form's numbers, and those; all 0 where they aren't.
 pub struct InGroups {
     pub grouped: bool,
     pub numbers: [u64; 13],
@@ -53,6 +53,15 @@ pub fn put_numbers(bytes: &mut [u8], numbers: [u32; 13]) -> usize
 
 // ---- bytes to numbers
 
+fn not_grouped() -> InGroups
+    ensures { λ r. ⌜ r ≡ heldBy notGrouped ⌝ }
+{
+    InGroups {
+        grouped: false,
+        numbers: [0u64; 13],
+    }
+}
+
 fn field_in(bytes: &[u8], i: usize, kind: u64) -> Found
     requires { ⌜ i < 13 ⌝ }
     ensures { λ found. ⌜ seenFound found ≡ fieldIn (fieldAt storedForm i .short) kind (now (bytes .entry)) ⌝ }
@@ -63,9 +72,9 @@ fn field_in(bytes: &[u8], i: usize, kind: u64) -> Found
     Found::Number(0, 0)
 }
 
-// The numbers that the bytes hold; where they aren't grouped as they should be, no numbers are told.
+// The numbers that the bytes hold; where they aren't all there, in groups, with nothing behind them, all are 0.
 pub fn numbers_in(bytes: &[u8]) -> InGroups
-    ensures { λ r. ⌜ seenNumbers r ≡ numbersIn (now (bytes .entry)) ⌝ }
+    ensures { λ r. ⌜ r ≡ heldBy (numbersIn (now (bytes .entry))) ⌝ }
 {
     let mut numbers = [0u64; 13];
     let mut at: usize = 0;
@@ -73,17 +82,17 @@ pub fn numbers_in(bytes: &[u8]) -> InGroups
     while i < 13 {
         let found = field_in(&bytes[at..], i, numbers[9]);
         let Found::Number(n, taken) = found else {
-            return InGroups {
-                grouped: false,
-                numbers,
-            };
+            return not_grouped();
         };
         numbers[i] = n;
         at += taken;
         i += 1;
     }
-    InGroups {
-        grouped: at == bytes.len(),
-        numbers,
+    if at == bytes.len() {
+        return InGroups {
+            grouped: true,
+            numbers,
+        };
     }
+    not_grouped()
 }

@@ -23,6 +23,14 @@ fn show_bytes(bytes: &[u8]) {
     show(b"\n");
 }
 
+fn show_length(n: usize) {
+    let mut digits = [0u8; 20];
+    let end = io::decimal(n as u64, &mut digits);
+    show(b"length ");
+    show(&digits[..end]);
+    show(b"\n");
+}
+
 fn show_verdict(verdict: Verdict) {
     match verdict {
         Verdict::Accepted => {
@@ -38,11 +46,12 @@ fn show_verdict(verdict: Verdict) {
 
 // ---- writing
 
-// A record goes to the room; the room is shown whole, with what stays behind the form.
+// A record goes to the room; the length is shown, and the room whole, with what stays behind the form.
 fn write(r: Record, room: &mut [u8]) {
     let packed = short_form::write(r, room);
     let verdict = packed.verdict;
     show_verdict(verdict);
+    show_length(packed.length);
     show_bytes(room);
 }
 

@@ -6,7 +6,8 @@ use lib.Dec.{ltb, leb}
 use borrow.Author.Tests.{leb-true, lt-ltb}
 use Rattle.state.specs.FitRecord.{spFits}
 use Rattle.short_form.proofs.Ranges.{sp-in-range}
-use Rattle.short_form.proofs.Decisions.{implied, implies, register}
+use Rattle.laws.proofs.Tests.{implied, implies}
+use Rattle.short_form.proofs.Numbers.{register}
 use Rattle.short_form.proofs.number_fits.Statement.{statement}
 use Rattle.short_form.proofs.number_fits.Tie as tie
 

@@ -7,7 +7,7 @@ use lib.Dec.{eqb, ltb}
 use lib.ListN.{List·getD-eq-default}
 use borrow.Author.Tests.{eqb-true, ltb-true, lt-ltb}
 use Rattle.laws.proofs.Runs.{past}
-use Rattle.short_form.proofs.Decisions.{implied}
+use Rattle.laws.proofs.Tests.{implied}
 use Rattle.short_form.proofs.offset_fits.Statement.{statement}
 use Rattle.short_form.proofs.offset_fits.Tie as tie
 

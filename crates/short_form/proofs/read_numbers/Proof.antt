@@ -18,8 +18,8 @@ accepts c = sym (rw (c .enum-told .given .1) at (c .before .before .verdict-of .
 fitting : (c : tie.After-enum-told) → decision (numberRules (c .before .before .before .args .numbers)) ≡ accepted
 fitting c = passes (c .before .before .before .args .grouped) 9 [] _ (accepts c) .1
 
-values-of-requires : tie.Need-values-of-requires
-values-of-requires c κs =
+values-for-requires : tie.Need-values-for-requires
+values-for-requires c κs =
     let numbers = c .before .before .before .args .numbers in
     (of-32-bits numbers (omega arith) (fitting c), sp-number numbers (omega arith) (fitting c))
 
@@ -32,8 +32,8 @@ returns-2 : tie.Need-returns-2
 returns-2 c =
     let numbers = c .before .before .before .before .before .args .numbers in
     let told = c .before .before in
-    let read = c .record-with .ensures ∙ ap (λ (values : List ℕ). recordIn (encode storedForm values)) (c .before .values-of .ensures) ∙ through-bytes numbers (omega arith) (fitting told) in
+    let read = c .record-with .ensures ∙ ap (λ (values : List ℕ). recordIn (encode storedForm values)) (c .before .values-for .ensures) ∙ through-bytes numbers (omega arith) (fitting told) in
     rw (accepts told, read)
 
 pub read-numbers-spec : {M : Type 1} → statement M
-read-numbers-spec = tie.close (tie.spec (λ c κs. tt) (λ c. search needs) (λ c κs. tt) (λ c. search needs) values-of-requires (λ c κs. tt) returns returns-2)
+read-numbers-spec = tie.close (tie.spec (λ c κs. tt) (λ c. search needs) (λ c κs. tt) (λ c. search needs) values-for-requires (λ c κs. tt) returns returns-2)

@@ -7,7 +7,7 @@ use Rattle.short_form.proofs.verdict_of.Tie as tie
 returns : tie.Need-returns
 returns c =
     let s = c .before .before .before .args in
-    joined (groupsRule (s .grouped) ∷ []) (numberRules (s .numbers)) _ _ _ (c .first-of .ensures) (c .before .before .of-groups .ensures) (c .before .numbers-fit .ensures)
+    joined (groupsRule (s .grouped) ∷ []) (numberRules (s .numbers)) _ _ _ (c .first-of .ensures) (c .before .before .groups-verdict .ensures) (c .before .numbers-fit .ensures)
 
 pub verdict-of-spec : {M : Type 1} → statement M
 verdict-of-spec = tie.close (tie.spec (λ c κs. tt) (λ c κs. tt) (λ c κs. tt) returns)

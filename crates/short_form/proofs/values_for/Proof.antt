@@ -7,8 +7,8 @@ use borrow.Author.Needs.{needs}
 use lib.ListN.{length, getD, take, length-set}
 use lib.Seq.{take-all, take-suc, take-suc-set}
 use Rattle.short_form.proofs.Numbers.{values-set}
-use Rattle.short_form.proofs.values_of.Statement.{statement}
-use Rattle.short_form.proofs.values_of.Tie as tie
+use Rattle.short_form.proofs.values_for.Statement.{statement}
+use Rattle.short_form.proofs.values_for.Tie as tie
 
 abbrev Inv-loop : tie.InvT-loop
 Inv-loop numbers values₀ i₀ values i = (i ≤ 13) × (length values ≡ 13) × (take i values ≡ take i numbers)
@@ -46,5 +46,5 @@ sub-values c = rw (copied c) (omega (arith, c .before .before .pre .1))
 returns : tie.Need-returns Inv-loop μ-loop
 returns c = rw (copied c) (values-set (c .before .before .args .t1) (omega arith))
 
-pub values-of-spec : {M : Type 1} → statement M
-values-of-spec = tie.close (tie.spec Inv-loop μ-loop loop-holds (λ c. search needs) (λ c. search needs) cast-values (λ c. search needs) (λ c. search needs) (λ c. search needs) (λ c. search needs) loop-again (λ c. search needs) mul-values-3 sub-values (λ c. search needs) returns)
+pub values-for-spec : {M : Type 1} → statement M
+values-for-spec = tie.close (tie.spec Inv-loop μ-loop loop-holds (λ c. search needs) (λ c. search needs) cast-values (λ c. search needs) (λ c. search needs) (λ c. search needs) (λ c. search needs) loop-again (λ c. search needs) mul-values-3 sub-values (λ c. search needs) returns)
