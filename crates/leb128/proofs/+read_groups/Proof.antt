@@ -1,12 +1,14 @@
 -- `read_groups` calls itself with one group less allowed, so its measure is how many are.
-use mathlib.Core.Path.{sym, _∙_}
+use mathlib.Core.Path.{_≡_, sym, _∙_}
 use Prim.Native.Nat.{ℕ, _-_, _%_, _^_, _<_, _≤_}
 use lib.ListN.{getD}
 use native.Mathlib.Omega.{arith}
 use borrow.Author.Needs.{needs}
 use borrow.Fn.Kinds.{In}
 use borrow.Fn.PlainCycle.{Measures, is, falls, and}
-use Rattle.leb128.specs.Leb128.{number, cutOff, tooManyGroups, notShortest}
+use Rattle.leb128.specs.Leb128.{below, numberIn, seenFound}
+use Rattle.leb128.specs.declared.Found.{Found}
+use Rattle.leb128.specs.declared.Found.the-variants.{Number, CutOff, TooManyGroups, NotShortest}
 use Rattle.leb128.proofs.Laws.{none-allowed, none-left, last-read, lower-read, shorter, small}
 use Rattle.leb128.proofs.Theorems.{above}
 use Rattle.leb128.proofs.read_groups.Reads as read-groups
@@ -47,13 +49,18 @@ module _ (t : ℕ) where
   read-groups-requires : read-groups-lts.Need-read-groups-requires claims (read-groups-at t) read-groups.Post
   read-groups-requires c κs = (omega arith, omega (arith, c .before .before .before .before .before .before .pre .1))
 
+  -- by what the other bytes say
+  by-rest : (c : read-groups-lts.After-read-groups claims (read-groups-at t) read-groups.Post) (f : Found) → c .read-groups .result ≡ f
+      → below (seenFound f) (getD (c .before .before .before .before .before .before .before .args .bytes .now) 0 0 % 128) ≡ numberIn (c .before .before .before .before .before .before .before .args .most) (c .before .before .before .before .before .before .before .args .bytes .now)
+  by-rest c f told =
+      let start = c .before .before .before .before .before .before .before in
+      lower-read (start .args .most) (start .args .bytes .now) (seenFound f) (omega arith) (omega arith) (omega arith) (rw told at (c .read-groups .ensures))
+
   returns-4 : read-groups-lts.Need-returns-4 claims (read-groups-at t) read-groups.Post
   returns-4 c =
-      let start = c .before .before .before .before .before .before .before .before .before .before .before in
       let x = c .before .before .rest .given .0 .0 in
       let n = c .before .before .rest .given .0 .1 .0 in
-      shorter x n (getD (start .args .bytes .now) 0 0 % 128) (omega arith)
-      ∙ lower-read (start .args .most) (start .args .bytes .now) (number x n) (omega arith) (omega arith) (omega arith) (rw (c .before .before .rest .given .1) at (c .before .before .before .before .read-groups .ensures))
+      shorter x n _ (omega arith) ∙ by-rest (c .before .before .before .before) (Number x n) (c .before .before .rest .given .1)
 
   small-rest : (c : read-groups-lts.Else4 claims (read-groups-at t) read-groups.Post)
       → (c .before .before .rest .given .0 .0 < 2 ^ 28) × (c .before .before .rest .given .0 .1 .0 ≤ 4)
@@ -72,26 +79,18 @@ module _ (t : ℕ) where
 
   returns-5 : read-groups-lts.Need-returns-5 claims (read-groups-at t) read-groups.Post
   returns-5 c =
-      let start = c .before .before .before .before .before .before .before .before .before .before .before in
       let x = c .before .before .rest .given .0 .0 in
       let n = c .before .before .rest .given .0 .1 .0 in
-      sym (above (getD (start .args .bytes .now) 0 0 % 128) x n (omega arith))
-      ∙ lower-read (start .args .most) (start .args .bytes .now) (number x n) (omega arith) (omega arith) (omega arith) (rw (c .before .before .rest .given .1) at (c .before .before .before .before .read-groups .ensures))
+      sym (above _ x n (omega arith)) ∙ by-rest (c .before .before .before .before) (Number x n) (c .before .before .rest .given .1)
 
   returns-6 : read-groups-lts.Need-returns-6 claims (read-groups-at t) read-groups.Post
-  returns-6 c =
-      let start = c .before .before .before .before .before .before .before .before .before in
-      lower-read (start .args .most) (start .args .bytes .now) cutOff (omega arith) (omega arith) (omega arith) (rw (c .enum-told .given .1) at (c .before .before .read-groups .ensures))
+  returns-6 c = by-rest (c .before .before) CutOff (c .enum-told .given .1)
 
   returns-7 : read-groups-lts.Need-returns-7 claims (read-groups-at t) read-groups.Post
-  returns-7 c =
-      let start = c .before .before .before .before .before .before .before .before .before in
-      lower-read (start .args .most) (start .args .bytes .now) tooManyGroups (omega arith) (omega arith) (omega arith) (rw (c .enum-told2 .given .1) at (c .before .before .read-groups .ensures))
+  returns-7 c = by-rest (c .before .before) TooManyGroups (c .enum-told2 .given .1)
 
   returns-8 : read-groups-lts.Need-returns-8 claims (read-groups-at t) read-groups.Post
-  returns-8 c =
-      let start = c .before .before .before .before .before .before .before .before .before in
-      lower-read (start .args .most) (start .args .bytes .now) notShortest (omega arith) (omega arith) (omega arith) (rw (c .enum-told3 .given .1) at (c .before .before .read-groups .ensures))
+  returns-8 c = by-rest (c .before .before) NotShortest (c .enum-told3 .given .1)
 
 pub +read-groups-spec : {M : Type 1} → statement M
 +read-groups-spec = close μ-read-groups λ t. read-groups-lts.spec (claims t)
