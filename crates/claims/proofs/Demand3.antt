@@ -8,11 +8,10 @@ use Rattle.series.specs.Machine.{Handed, called}
 use Rattle.series.specs.Series.{State, Series}
 use Rattle.series.specs.Demand3.{Demand3}
 use Rattle.series.proofs.Theorems as series
-use Rattle.instruction.specs.Fitness.{Fit}
-use Rattle.instruction.proofs.Kept.{keeps, starts}
 use Rattle.admission.proofs.Theorems.{accepts}
 use Rattle.claims.proofs.Admitted.{allowed-program}
-use Rattle.claims.specs.Demand3.{Allowed, FitStart, machineOf, CodeCall, ofRun, ofStep, handedTo, gaveBy, machine}
+use Rattle.claims.proofs.Machines.{keeps-admitted, meets}
+use Rattle.claims.specs.Demand3.{Allowed, FitStart, machineOf, CodeCall, handedTo, gaveBy, machine}
 
 -- over any setting, and so over any set of listed encodings, with any calls that give what the plain machine, or the refusal, gives
 pub demand3-of : (Call : Type 0) (handed : Call → Handed Setting) (gave : Call → Result)
@@ -21,21 +20,8 @@ pub demand3-of : (Call : Type 0) (handed : Call → Handed Setting) (gave : Call
     → (calls : List (InSeries Call)) → Series (machineOf Call handed gave setting) calls start
     → Demand3 (machineOf Call handed gave setting) calls start
 demand3-of Call handed gave meets setting allowed start fit calls h =
-    let program = allowed-program setting allowed in
-    series.demand3 (machineOf Call handed gave setting) (Fit setting)
-    (record {
-      keeps = keeps setting program;
-      starts = starts setting program;
-      accepts = λ budget r ram f.
-          accepts setting r ram program (f .ramFits) (allowed .externalAllowed) (f .recordFits) (f .placeFits);
-      meets = meets setting;
-    })
-    calls start fit h
-
--- the contracts of `run` and `step` are what the plain machine, or the refusal, gives
-meets : (setting : Setting) (c : CodeCall) → gaveBy c ≡ called (machine setting) (handedTo c)
-meets setting (ofRun κs a x s contract) = contract
-meets setting (ofStep κs a x s contract) = contract
+    series.demand3 (machineOf Call handed gave setting) (keeps-admitted Call handed gave meets setting) calls start
+    (accepts setting (start .rec) (start .ram) (allowed-program setting allowed) (fit .ramFits) (allowed .externalAllowed) (fit .recordFits) (fit .placeFits)) h
 
 pub demand3 : (setting : Setting) → Allowed setting → (start : State) → FitStart setting start
     → (calls : List (InSeries CodeCall)) → Series (machine setting) calls start → Demand3 (machine setting) calls start

@@ -1,6 +1,9 @@
 pub mod Admitted
+pub mod Machines
 pub mod Demand2
 pub mod Demand3
+pub mod StopAndGoOn
+pub mod Cuts
 pub mod Examples
 pub mod EmptySet
 pub mod SmallProfile

@@ -42,7 +42,7 @@ stop-back unlisted h = refl
 stop-back (refused n values) h = ap (refused n) (sym h)
 
 module _ (c : RecordCall) where
-  abbrev ran : Result
+  abbrev pub ran : Result
   ran = runOf (handedRecord c .setting) (handedRecord c .budget) (handedRecord c .rec) (handedRecord c .ram)
 
   ran-held : Held (ran .rec)
@@ -51,19 +51,19 @@ module _ (c : RecordCall) where
       held-after (handedRecord c .setting) (b .page) (b .external) (handedRecord c .budget) (handedRecord c .rec) (handedRecord c .ram)
       (record-held (lentTo (c .call) .bytes) (b .bytes)) (b .ram)
 
-  crossed-ran : crossedBy (c .call) ≡ crossing ran
+  pub crossed-ran : crossedBy (c .call) ≡ crossing ran
   crossed-ran = crossed-is (c .call) ∙ rw (c .holds)
 
   -- what comes back holds a record
   left-holds : holdsRecord (crossedBy (c .call) .bytes) ≡ true
   left-holds = rw crossed-ran (record-holds (ran .rec) ran-held)
 
-  meets : gaveRecord c ≡ ran
+  pub meets : gaveRecord c ≡ ran
   meets =
       rw crossed-ran
       (λ i. record { stop = stop-back (ran .stop) (no-values (handedRecord c .setting) (handedRecord c .budget) (handedRecord c .rec) (handedRecord c .ram)) i; steps = ran .steps; rec = record-kept (ran .rec) ran-held i; ram = ran .ram })
 
-keeps-bytes : (c : HostCall) → holdsRecord (lentTo c .bytes) ≡ false → KeepsBytes c
+pub keeps-bytes : (c : HostCall) → holdsRecord (lentTo c .bytes) ≡ false → KeepsBytes c
 keeps-bytes c e = crossed-is c ∙ rw e
 
 -- ---- a series

@@ -1,3 +1,4 @@
 pub mod HostCalls
 pub mod HostExits
 pub mod HostSeries
+pub mod HostStopAndGoOn

@@ -9,11 +9,7 @@ use Rattle.memory.specs.declared.Fault.{Fault}
 use Rattle.state.specs.declared.Record.{Record}
 use Rattle.stop.specs.Stops.{fault}
 use Rattle.stop.specs.Stops as stops
-use Rattle.plain.specs.PlainMachine.{Effect, goesOn, exits, faults, unlisted, Result, onward, plain}
-
--- the result of a run, where so many instructions were executed before it
-abbrev pub later : ℕ → Result → Result
-later before x = record { stop = x .stop; steps = before + x .steps; rec = x .rec; ram = x .ram }
+use Rattle.plain.specs.PlainMachine.{Effect, goesOn, exits, faults, unlisted, Result, later, onward, plain}
 
 -- what holds of the record and RAM that an instruction leaves, if it leaves others
 abbrev pub Leaves : (Record → List ℕ → Type 0) → Effect → Type 0
@@ -34,7 +30,7 @@ module _ (instruction : Record → List ℕ → Effect) where
   unfolding plain
   unlisted-keeps left steps r ram e = rw e
 
-  run-later : (before left steps : ℕ) (r : Record) (ram : List ℕ)
+  pub run-later : (before left steps : ℕ) (r : Record) (ram : List ℕ)
       → plain instruction left (before + steps) r ram ≡ later before (plain instruction left steps r ram)
   unfolding plain
   run-later before zero steps r ram = refl

@@ -22,6 +22,10 @@ pub record Result : Type 0 where
   pub rec : Record
   pub ram : List ℕ
 
+-- a result where so many steps were made before: they are added up
+abbrev pub later : ℕ → Result → Result
+later before x = record { stop = x .stop; steps = before + x .steps; rec = x .rec; ram = x .ram }
+
 -- an instruction after so many steps: if it goes on, its record and RAM are kept and steps grow by 1; an exit does the same and
 -- stops; a fault and an unlisted halfword stop and keep record, RAM and steps
 abbrev pub onward : ℕ → Record → List ℕ → (Record → List ℕ → Result) → Effect → Result

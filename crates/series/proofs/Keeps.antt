@@ -1,4 +1,4 @@
--- What the theorem asks of a machine.
+-- What the theorems ask of a machine.
 use Prim.Native.Nat.{ℕ}
 use mathlib.Core.List.{List}
 use mathlib.Core.Path.{_≡_}
@@ -6,8 +6,8 @@ use Rattle.memory.specs.Faults.{faultNumber}
 use Rattle.state.specs.declared.Record.{Record}
 use Rattle.stop.specs.Stops.{Exit}
 use Rattle.plain.specs.PlainMachine.{Effect, goesOn, exits, faults, unlisted}
-use Rattle.plain.proofs.Runs.{Leaves}
-use Rattle.series.specs.Machine.{Machine, Accepts, called}
+use Rattle.plain.proofs.Runs.{Leaves, run-keeps}
+use Rattle.series.specs.Machine.{Machine, Admits, called, run}
 
 -- an instruction goes on or exits with a fit record and RAM, an exit being by a service that stands there, or meets a known fault
 abbrev pub Keeps : (Fit : Record → List ℕ → Type 0) → (ServiceHere : Exit → Type 0) → (Known : ℕ → Type 0) → Effect → Type 0
@@ -23,11 +23,27 @@ keeps-leaves Fit ServiceHere Known (exits exit r ram) h = h .0
 keeps-leaves Fit ServiceHere Known (faults f) h = tt
 keeps-leaves Fit ServiceHere Known unlisted h = tt
 
-pub record KeepsFit (m : Machine) (Fit : Record → List ℕ → Type 0) : Type 0 where
-  -- at a fit record and RAM: what an instruction does; a listed one starts there; a call is not refused
-  pub keeps : (r : Record) (ram : List ℕ) → Fit r ram → Keeps Fit (m .ServiceAt r) (m .Known) (m .instruction (m .setting) r ram)
-  pub starts : (r : Record) (ram : List ℕ) → Fit r ram → m .Starts r
-  pub accepts : (budget : ℕ) (r : Record) (ram : List ℕ) → Fit r ram
-      → Accepts m (record { setting = m .setting; budget = budget; rec = r; ram = ram })
+-- what is fit in one sense is in another
+pub keeps-too : (Fit Fit′ : Record → List ℕ → Type 0) (ServiceHere : Exit → Type 0) (Known : ℕ → Type 0)
+    → ((r : Record) (ram : List ℕ) → Fit r ram → Fit′ r ram)
+    → (e : Effect) → Keeps Fit ServiceHere Known e → Keeps Fit′ ServiceHere Known e
+keeps-too Fit Fit′ ServiceHere Known too (goesOn r ram) h = too r ram h
+keeps-too Fit Fit′ ServiceHere Known too (exits exit r ram) h = (too r ram (h .0), h .1)
+keeps-too Fit Fit′ ServiceHere Known too (faults f) h = h
+keeps-too Fit Fit′ ServiceHere Known too unlisted h = h
+
+pub record KeepsAdmitted (m : Machine) : Type 0 where
+  -- where a call isn't refused: what an instruction does, which leaves it so; and a listed one starts there
+  pub keeps : (r : Record) (ram : List ℕ) → Admits m r ram
+      → Keeps (Admits m) (m .ServiceAt r) (m .Known) (m .instruction (m .setting) r ram)
+  pub starts : (r : Record) (ram : List ℕ) → Admits m r ram → m .Starts r
   -- a call meets its contract
   pub meets : (c : m .Call) → m .gave c ≡ called m (m .handed c)
+
+-- what a run leaves is not refused either
+pub admits-after : (m : Machine) → KeepsAdmitted m → (total : ℕ) (r : Record) (ram : List ℕ) → Admits m r ram
+    → Admits m (run m total r ram .rec) (run m total r ram .ram)
+admits-after m k total r ram a =
+    run-keeps (m .instruction (m .setting)) (Admits m)
+    (λ s after b. keeps-leaves (Admits m) (m .ServiceAt s) (m .Known) (m .instruction (m .setting) s after) (k .keeps s after b))
+    total 0 r ram a

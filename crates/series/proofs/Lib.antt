@@ -1,2 +1,3 @@
 pub mod Keeps
 pub mod Theorems
+pub mod StopAndGoOn

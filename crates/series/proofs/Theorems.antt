@@ -1,4 +1,4 @@
--- Demand 3, over any machine whose instructions keep what is fit.
+-- Demand 3, over any machine whose instructions leave what isn't refused.
 use Prim.Native.Nat.{ℕ, zero, suc, _-_}
 use native.Mathlib.Omega.{arith}
 use mathlib.Core.Bool.{Bool, true, false, cond}
@@ -7,33 +7,33 @@ use mathlib.Core.Path.{_≡_, refl, sym, ap, subst, _∙_}
 use Rattle.state.specs.declared.Record.{Record}
 use Rattle.stop.specs.Stops.{Reason, budget, service, fault, refused}
 use Rattle.stop.specs.Stops as stops
-use Rattle.plain.specs.PlainMachine.{Effect, goesOn, exits, faults, unlisted, Result, plain}
-use Rattle.plain.proofs.Runs.{later, run-goes-on, smaller-budget-spent, run-keeps}
+use Rattle.plain.specs.PlainMachine.{Effect, goesOn, exits, faults, unlisted, Result, later, plain}
+use Rattle.plain.proofs.Runs.{run-goes-on, smaller-budget-spent}
 use Rattle.series.specs.HandedOn.{InSeries, own, other, callIn, HandedIn, leftBy}
-use Rattle.series.specs.Machine.{Handed, Machine, Refuses, refusedBy, called, run}
+use Rattle.series.specs.Machine.{Handed, Machine, Refuses, Admits, refusedBy, called, run}
 use Rattle.series.specs.Series.{State, stateOf, handedState, gaveState, OwnSetting, Series, fed, plainResult, plainAfter, plainResults, plainState}
 use Rattle.series.specs.Demand3.{StopsBy, OwnCall, SoundCall, Demand3}
-use Rattle.series.proofs.Keeps.{Keeps, keeps-leaves, KeepsFit}
+use Rattle.series.proofs.Keeps.{Keeps, KeepsAdmitted, admits-after}
 
 -- what stands stays where it isn't handed to a call, or the call gives it back
 pub stays : {A : Type 0} (handed : Bool) (before gave : A) → (handed ≡ true → gave ≡ before) → cond handed gave before ≡ before
 stays true before gave e = e refl
 stays false before gave e = refl
 
-module _ (m : Machine) (Fit : Record → List ℕ → Type 0) (k : KeepsFit m Fit) where
-  -- ---- one run from a fit record and RAM
-
-  fit-after : (total : ℕ) (r : Record) (ram : List ℕ) → Fit r ram → Fit (run m total r ram .rec) (run m total r ram .ram)
-  fit-after total r ram f =
-      run-keeps (m .instruction (m .setting)) Fit (λ s after g. keeps-leaves Fit (m .ServiceAt s) (m .Known) (m .instruction (m .setting) s after) (k .keeps s after g))
-      total 0 r ram f
-
+module _ (m : Machine) where
   -- what an own call is handed where these stand
-  abbrev ownHanded : ℕ → Record → List ℕ → Handed (m .Setting)
+  abbrev pub ownHanded : ℕ → Record → List ℕ → Handed (m .Setting)
   ownHanded total r ram = record { setting = m .setting; budget = total; rec = r; ram = ram }
 
+  pub handed-own : (s : State) (c : m .Call) → OwnSetting m c × (handedState m c ≡ s)
+      → m .handed c ≡ ownHanded (m .handed c .budget) (s .rec) (s .ram)
+  handed-own s c h i = record { setting = h .0 i; budget = m .handed c .budget; rec = h .1 i .rec; ram = h .1 i .ram }
+
+module _ (m : Machine) (k : KeepsAdmitted m) where
+  -- ---- one run that isn't refused
+
   abbrev StopsWell : ℕ → Record → List ℕ → Reason → Type 0
-  StopsWell total r ram = StopsBy m (ownHanded total r ram) (run m total r ram)
+  StopsWell total r ram = StopsBy m (ownHanded m total r ram) (run m total r ram)
 
   -- where the first instruction goes on, a run stops as the rest of it does
   stops-later : (left : ℕ) (r s : Record) (ram after : List ℕ) → m .instruction (m .setting) r ram ≡ goesOn s after
@@ -51,13 +51,13 @@ module _ (m : Machine) (Fit : Record → List ℕ → Type 0) (k : KeepsFit m Fi
       go on stops.unlisted h = h
       go on (refused n values) h = h
 
-  stops-well : (left : ℕ) (r : Record) (ram : List ℕ) → Fit r ram → StopsWell left r ram (run m left r ram .stop)
+  stops-well : (left : ℕ) (r : Record) (ram : List ℕ) → Admits m r ram → StopsWell left r ram (run m left r ram .stop)
   unfolding plain
-  stops-well zero r ram f = refl
-  stops-well (suc left) r ram f = go (stops-well left) (m .instruction (m .setting) r ram) refl (k .keeps r ram f)
+  stops-well zero r ram a = refl
+  stops-well (suc left) r ram a = go (stops-well left) (m .instruction (m .setting) r ram) refl (k .keeps r ram a)
     where
-      go : ((s : Record) (after : List ℕ) → Fit s after → StopsWell left s after (run m left s after .stop))
-          → (e : Effect) → m .instruction (m .setting) r ram ≡ e → Keeps Fit (m .ServiceAt r) (m .Known) e
+      go : ((s : Record) (after : List ℕ) → Admits m s after → StopsWell left s after (run m left s after .stop))
+          → (e : Effect) → m .instruction (m .setting) r ram ≡ e → Keeps (Admits m) (m .ServiceAt r) (m .Known) e
           → StopsWell (suc left) r ram (run m (suc left) r ram .stop)
       go rest (goesOn s after) e h =
           let same = ap (λ (x : Result). x .stop) (run-goes-on (m .instruction (m .setting)) left r s ram after e) in
@@ -67,56 +67,55 @@ module _ (m : Machine) (Fit : Record → List ℕ → Type 0) (k : KeepsFit m Fi
       go rest (faults g) e h = rw e (record { met = g; meets = e; number = refl; known = h })
       go rest unlisted e h = absurd h
 
-  own-sound : (total : ℕ) (r : Record) (ram : List ℕ) → Fit r ram → OwnCall m (ownHanded total r ram) (run m total r ram)
-  own-sound total r ram f = record {
-    accepted = k .accepts total r ram f;
-    stops = stops-well total r ram f;
-    trace = λ i l. (smaller-budget-spent (m .instruction (m .setting)) total i r ram l, k .starts _ _ (fit-after i r ram f));
+  own-sound : (total : ℕ) (r : Record) (ram : List ℕ) → Admits m r ram → OwnCall m (ownHanded m total r ram) (run m total r ram)
+  own-sound total r ram a = record {
+    accepted = a;
+    stops = stops-well total r ram a;
+    trace = λ i l. (smaller-budget-spent (m .instruction (m .setting)) total i r ram l, k .starts _ _ (admits-after m k i r ram a));
   }
 
   -- ---- the series
 
-  -- a call is as claimed; a fit state stands after it, which is the plain machine's; and it gave what the plain machine gives
+  -- a call is as claimed; after it the next isn't refused; the state is the plain machine's; and it gave what the plain machine gives
   record Goes (c : InSeries (m .Call)) (s : State) : Type 0 where
     sound : SoundCall m c
-    fit : Fit (leftBy (gaveState m) c s .rec) (leftBy (gaveState m) c s .ram)
+    admits : Admits m (leftBy (gaveState m) c s .rec) (leftBy (gaveState m) c s .ram)
     gives : m .gave (callIn c) ≡ plainResult m (fed m c) s
     leaves : leftBy (gaveState m) c s ≡ plainAfter m (fed m c) s
 
-  goes : (c : InSeries (m .Call)) (s : State) → Fit (s .rec) (s .ram) → HandedIn (gaveState m) (handedState m) (OwnSetting m) (λ c. Refuses m (m .handed c)) c s → Goes c s
-  goes (own c) s f h =
-      let handed : m .handed c ≡ ownHanded (m .handed c .budget) (s .rec) (s .ram) =
-      λ i. record { setting = h .0 i; budget = m .handed c .budget; rec = h .1 i .rec; ram = h .1 i .ram } in
+  goes : (c : InSeries (m .Call)) (s : State) → Admits m (s .rec) (s .ram) → HandedIn (gaveState m) (handedState m) (OwnSetting m) (λ c. Refuses m (m .handed c)) c s → Goes c s
+  goes (own c) s a h =
+      let handed = handed-own m s c h in
       let gave : m .gave c ≡ run m (m .handed c .budget) (s .rec) (s .ram) =
-      k .meets c ∙ ap (called m) handed ∙ rw (k .accepts (m .handed c .budget) (s .rec) (s .ram) f) in
+      k .meets c ∙ ap (called m) handed ∙ rw a in
       record {
         sound = subst (OwnCall m (m .handed c)) (sym gave) (own-there handed);
-        fit = rw gave (fit-after (m .handed c .budget) (s .rec) (s .ram) f);
+        admits = rw gave (admits-after m k (m .handed c .budget) (s .rec) (s .ram) a);
         gives = gave;
         leaves = ap stateOf gave;
       }
     where
-      own-there : {h : Handed (m .Setting)} → h ≡ ownHanded (h .budget) (s .rec) (s .ram) → OwnCall m h (run m (h .budget) (s .rec) (s .ram))
-      own-there {h} e = subst (λ (g : Handed (m .Setting)). OwnCall m g (run m (h .budget) (s .rec) (s .ram))) (sym e) (own-sound (h .budget) (s .rec) (s .ram) f)
-  goes (other seriesRecord seriesRam c) s f h =
+      own-there : {h : Handed (m .Setting)} → h ≡ ownHanded m (h .budget) (s .rec) (s .ram) → OwnCall m h (run m (h .budget) (s .rec) (s .ram))
+      own-there {h} e = subst (λ (g : Handed (m .Setting)). OwnCall m g (run m (h .budget) (s .rec) (s .ram))) (sym e) (own-sound (h .budget) (s .rec) (s .ram) a)
+  goes (other seriesRecord seriesRam c) s a h =
       let back : m .gave c ≡ refusedBy m (h .0 .0) (h .0 .1) (m .handed c) = k .meets c ∙ rw (h .0 .2) in
       let stillRecord = stays seriesRecord (s .rec) (m .gave c .rec) (λ t. rw back (h .1 t)) in
       let stillRam = stays seriesRam (s .ram) (m .gave c .ram) (λ t. rw back (h .2 t)) in
       record {
         sound = record { refuses = h .0; gives = back };
-        fit = rw (stillRecord, stillRam) f;
+        admits = rw (stillRecord, stillRam) a;
         gives = k .meets c;
         leaves = rw (stillRecord, stillRam);
       }
 
-  pub demand3 : (cs : List (InSeries (m .Call))) (s : State) → Fit (s .rec) (s .ram) → Series m cs s → Demand3 m cs s
+  pub demand3 : (cs : List (InSeries (m .Call))) (s : State) → Admits m (s .rec) (s .ram) → Series m cs s → Demand3 m cs s
   unfolding plainResults plainState
-  demand3 [] s f h = record { sound = k .starts (s .rec) (s .ram) f; gives = refl; leaves = refl }
-  demand3 (c ∷ cs) s f h =
-      let first = goes c s f (h .0) in
-      let rest = demand3 cs (leftBy (gaveState m) c s) (first .fit) (h .1) in
+  demand3 [] s a h = record { sound = k .starts (s .rec) (s .ram) a; gives = refl; leaves = refl }
+  demand3 (c ∷ cs) s a h =
+      let first = goes c s a (h .0) in
+      let rest = demand3 cs (leftBy (gaveState m) c s) (first .admits) (h .1) in
       record {
-        sound = (k .starts (s .rec) (s .ram) f, first .sound, rest .sound);
+        sound = (k .starts (s .rec) (s .ram) a, first .sound, rest .sound);
         gives = rw (← first .leaves, ← first .gives, rest .gives);
         leaves = rest .leaves ∙ ap (plainState m (map (fed m) cs)) (first .leaves);
       }

@@ -2,3 +2,4 @@ pub mod HandedOn
 pub mod Machine
 pub mod Series
 pub mod Demand3
+pub mod StopAndGoOn

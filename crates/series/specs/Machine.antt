@@ -44,6 +44,10 @@ module _ (m : Machine) where
   abbrev pub Accepts : Handed (m .Setting) → Type 0
   Accepts h = decisionOn h ≡ accepted
 
+  -- a call with the machine's setting isn't refused from here
+  abbrev pub Admits : Record → List ℕ → Type 0
+  Admits r ram = m .decision (m .setting) r ram ≡ accepted
+
   -- refused, its steps are 0 and its stop is the refusal's number with its values; it gives back what it was handed
   abbrev pub refusedBy : ℕ → List ℕ → Handed (m .Setting) → Result
   refusedBy n values h = record { stop = stops.refused n values; steps = 0; rec = h .rec; ram = h .ram }
