@@ -33,6 +33,7 @@ echo "deliberate mistakes found"
 ./target/release/library ${1+"$1"}
 for name in lt-from-n first-successor count-one-less base-one-off place-128 imm15-unshifted \
     set-one-off set-complement count-without-set run-without-set last-moves-on \
+    budget-after budget-cut \
     small-with-cbnz small-with-movw full-behind-terminator profile-after-length profile-2-small \
     count-without-profile run-without-profile alignment-before-bounds external-by-most place-before-external \
     last-failing-field position-in-fields none-offset-at-kind no-record-at-sp no-record-at-last \

@@ -17,7 +17,7 @@ use crate::second::record::{
 use crate::second::rules::Rules;
 
 /// Each mistake's name, and the rules with it.
-const MISTAKES: [(&str, Rules); 26] = [
+const MISTAKES: [(&str, Rules); 28] = [
     (
         "lt-from-n",
         Rules {
@@ -73,6 +73,20 @@ const MISTAKES: [(&str, Rules); 26] = [
         "last-moves-on",
         Rules {
             stays: last_moves_on,
+            ..Rules::RIGHT
+        },
+    ),
+    (
+        "budget-after",
+        Rules {
+            allowed: budget_after,
+            ..Rules::RIGHT
+        },
+    ),
+    (
+        "budget-cut",
+        Rules {
+            allowed: budget_cut,
             ..Rules::RIGHT
         },
     ),
@@ -284,6 +298,16 @@ fn without_set(code: Code) -> Result<Page, u8> {
 /// The place moves on at every direct syscall, though the count ends there.
 fn last_moves_on(exit: Exit, _: NeverReturn) -> bool {
     exit.is_terminator(NeverReturn::NONE)
+}
+
+/// The budget is tested after an instruction, so that 0 allows one.
+fn budget_after(budget: u32) -> u32 {
+    budget.max(1)
+}
+
+/// The budget is cut to 24 bits.
+fn budget_cut(budget: u32) -> u32 {
+    budget % (1 << 24)
 }
 
 /// The page with another profile in the small one's place.

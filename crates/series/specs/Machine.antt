@@ -18,7 +18,7 @@ pub record Handed (Setting : Type 0) : Type 0 where
 
 pub record Machine : Type 1 where
   pub Setting : Type 0
-  -- what all calls get that aren't refused
+  -- what all calls get but a series' refused ones
   pub setting : Setting
   pub instruction : Setting → Record → List ℕ → Effect
   pub decision : Setting → Record → List ℕ → Decision

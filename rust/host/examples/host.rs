@@ -79,6 +79,9 @@ impl Host<'_> {
     fn cycle(&mut self, record: &mut Record) -> Outcome {
         let mut steps = 0;
         while steps <= MOST_STEPS {
+            // The slices up to the first that doesn't stop as budget end as one run with
+            // the sum of their budgets would, with the steps added up; a longer slice in
+            // that one's place would have changed nothing.
             let stopped = self.setting.run(&mut self.ram, record, SLICE)?;
             steps += stopped.steps;
             match (stopped.stop, stopped.stop.exit()) {

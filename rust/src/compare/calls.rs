@@ -1,8 +1,9 @@
 //! Calls on one page that several parts make: all its bundles, any of its places,
-//! and series with refused calls among them.
+//! and series with refused calls among them; and that two ways end alike.
 
 use super::records;
-use super::sides::{record_in, Handed, Rams};
+use super::report;
+use super::sides::{record_in, Given, Handed, Rams};
 use super::{Comparison, Same};
 use crate::random::Random;
 use crate::second::count::is_fit_place;
@@ -109,4 +110,16 @@ pub fn from_anywhere(
     };
     comparison.run(&handed, rams)?;
     comparison.step(&handed.with_budget(1), rams).map(|_| ())
+}
+
+/// That two ways from one record and RAM, each by its name, end alike: stop, steps,
+/// record and RAM.
+pub fn same_end(names: [&str; 2], handed: &Handed, ends: [(&Given, &Rams); 2]) -> Same {
+    let sides = ends.map(|(given, rams)| (given, &rams.library[..]));
+    if sides[0] == sides[1] {
+        return Ok(());
+    }
+    let found = report::ends(names, handed, sides);
+    let [one, other] = names;
+    Err(format!("{one} and {other} end differently\n{found}"))
 }

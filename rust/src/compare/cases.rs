@@ -10,6 +10,9 @@ use crate::second::memory::RAM_SIZE;
 use crate::second::record::{Base, Record, RAM_END, RAM_START};
 use crate::second::services::{Action, Service};
 
+/// Most bundles that lead to a tested one.
+const MOST_LEAD: usize = 8;
+
 /// A page and a record, mostly fit for it.
 pub struct Case {
     pub page: Vec<u8>,
@@ -199,6 +202,21 @@ pub fn any(random: &mut Random, external: usize) -> Case {
         page: page_bytes(&bundles),
         record,
     }
+}
+
+/// The same with calculations before the tested bundle, at one of which the record
+/// stands: they keep SP and base, so that what is near an edge stays there.
+pub fn led_to(random: &mut Random, external: usize) -> Case {
+    let mut case = any(random, external);
+    let tested = usize::from(case.record.place);
+    let from = (tested / 2).saturating_sub(random.between(1, MOST_LEAD));
+    for bundle in case.page[4 * from..][..4 * (tested / 2 - from)].chunks_exact_mut(4) {
+        let targets = [random.field(8), random.field(8)];
+        let halves = targets.map(|d| random::calculation_half(random, d));
+        bundle.copy_from_slice(&page_bytes(&[halves]));
+    }
+    case.record.place = random.between(2 * from, tested) as u16;
+    case
 }
 
 /// Returns up to the scene's end, then words.

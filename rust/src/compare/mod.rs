@@ -4,12 +4,12 @@
 //! - [`sides`]: each call on both sides, and [`report`] for a difference.
 //! - [`short`]: packing and unpacking on both sides, with the way back.
 //! - [`profiles`], [`refusals`], [`fields`], [`packing`], [`unpacking`], [`syscalls`],
-//!   [`exits`], [`forms`], [`reader`], [`steps`], [`pages`], [`fixed`]: the parts. Each
-//!   stops at its first difference.
+//!   [`exits`], [`slices`], [`forms`], [`reader`], [`steps`], [`pages`], [`fixed`]: the
+//!   parts. Each stops at its first difference.
 //! - [`records`], [`numbers`], [`cases`], [`codes`], [`sets`], [`shapes`] and
 //!   [`lacking`]: what the parts hand over; [`calls`]: what several of them call.
-//! - [`tally`] and [`short_tally`]: what was met; a class that was not is a failure
-//!   too, and so is an answer that its call can't give.
+//! - [`tally`], [`short_tally`] and [`slices_tally`]: what was met; a class that was
+//!   not is a failure too, and so is an answer that its call can't give.
 
 pub mod calls;
 pub mod cases;
@@ -32,6 +32,8 @@ pub mod shapes;
 pub mod short;
 pub mod short_tally;
 pub mod sides;
+pub mod slices;
+pub mod slices_tally;
 pub mod steps;
 pub mod syscalls;
 pub mod tally;
@@ -56,7 +58,7 @@ type Part = (&'static str, fn(&mut Comparison) -> Same);
 
 /// The parts that meet most kinds soonest come first: a mistake is found there in
 /// a moment.
-const PARTS: [Part; 12] = [
+const PARTS: [Part; 13] = [
     ("profiles", profiles::compare),
     ("refusals", refusals::compare),
     ("fields", fields::compare),
@@ -64,6 +66,7 @@ const PARTS: [Part; 12] = [
     ("unpacking", unpacking::compare),
     ("syscalls", syscalls::compare),
     ("exits", exits::compare),
+    ("slices", slices::compare),
     ("forms", forms::compare),
     ("reader", reader::compare),
     ("steps", steps::compare),

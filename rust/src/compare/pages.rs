@@ -2,11 +2,10 @@
 //! of steps and runs against one run. Many pages for the small profile are
 //! rewritten without what it lacks, so that they still do something.
 
-use super::calls::read_all;
+use super::calls::{read_all, same_end};
 use super::cases::{self, Scene};
 use super::codes::{self, UNKNOWN};
 use super::records;
-use super::report;
 use super::sets;
 use super::sides::{Given, Handed, Rams};
 use super::steps::noise;
@@ -34,15 +33,7 @@ pub fn compare(comparison: &mut Comparison) -> Same {
     let mut rams = Rams::new(noise(&mut random, RAM_SIZE));
     for number in 0..PAGES {
         let mut random = Random::of_page(comparison.seed, (3 << 41) + number);
-        let mut page = match number % 4 {
-            0 => wild_page(&mut random),
-            1 => damaged(&mut random),
-            _ => random::page(comparison.seed, number),
-        };
-        let profile = codes::either(&mut random);
-        if profile == SMALL && random.chance(80) {
-            rewrite(&mut random, &mut page);
-        }
+        let (page, profile) = any_page(&mut random, comparison.seed, number);
         let code = Code::new(&page, sets::any(&mut random)).under(profile);
         let external = &external[..256 * random.below(5)];
         one_page(comparison, &mut random, code, external, &mut rams)
@@ -50,6 +41,26 @@ pub fn compare(comparison: &mut Comparison) -> Same {
         comparison.tally.class("amounts", "pages");
     }
     Ok(())
+}
+
+/// A page of a kind that its number tells, and the profile that it is for.
+pub(super) fn any_page(random: &mut Random, seed: u64, number: u64) -> (Vec<u8>, u32) {
+    let mut page = match number % 4 {
+        0 => wild_page(random),
+        1 => damaged(random),
+        _ => random::page(seed, number),
+    };
+    let profile = profile_for(random, &mut page);
+    (page, profile)
+}
+
+/// Either profile, mostly with what the small one lacks written anew for it.
+pub(super) fn profile_for(random: &mut Random, page: &mut [u8]) -> u32 {
+    let profile = codes::either(random);
+    if profile == SMALL && random.chance(80) {
+        rewrite(random, page);
+    }
+    profile
 }
 
 /// A page of listed bundles that branch to and fro.
@@ -156,7 +167,7 @@ fn one_page(
 }
 
 /// A fit record at a place that may be fit.
-fn any_record(random: &mut Random, page: &[u8], external: usize) -> Record {
+pub(super) fn any_record(random: &mut Random, page: &[u8], external: usize) -> Record {
     let record = records::fit(random, external);
     let place = match random.below(8) {
         0 => random.pick(&[0, 127, 128, 255, 256, 0x7FFF, 0xFFFF]),
@@ -193,16 +204,13 @@ fn series(
         }
     }
     given.numbers.steps = steps;
-    if given == whole && parts.library == rams.library {
-        if handed.code.profile == SMALL && steps > 1 {
-            let met = "a series of several steps equals one run";
-            comparison.tally.class(SMALL_PROFILE, met);
-        }
-        return Ok(());
+    let ends = [(&given, &parts), (&whole, &*rams)];
+    same_end(["a series", "one run"], handed, ends)?;
+    if handed.code.profile == SMALL && steps > 1 {
+        let met = "a series of several steps equals one run";
+        comparison.tally.class(SMALL_PROFILE, met);
     }
-    let sides = [(&given, &parts.library[..]), (&whole, &rams.library)];
-    let found = report::runs("a series, then one run", handed, sides);
-    Err(format!("a series gives another end than one run\n{found}"))
+    Ok(())
 }
 
 /// A step or a run with a part of the budget; now and then comes a call before

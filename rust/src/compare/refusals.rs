@@ -24,9 +24,14 @@ const ORDER: [u32; 10] = [18, 1, 2, 3, NO_RECORD, 41, 42, 43, 44, 5];
 
 /// A choice of wrong things: bit n stands for the n-th refusal of the order.
 #[derive(Clone, Copy)]
-struct Wrong(u32);
+pub(super) struct Wrong(u32);
 
 impl Wrong {
+    /// Each thing alone.
+    pub(super) fn each() -> impl Iterator<Item = Wrong> {
+        (0..ORDER.len()).map(|bit| Wrong(1 << bit))
+    }
+
     /// All choices that can be: one base is not of both kinds.
     fn all() -> impl Iterator<Item = Wrong> {
         let choices = (0..1 << ORDER.len()).map(Wrong);
@@ -145,12 +150,30 @@ fn together(
     time: usize,
     external: &[u8],
 ) -> Same {
+    let papers = wrong.told(spoilt(time));
+    with_wrong(random, wrong, time, external, |_, handed, rams| {
+        run_and_step(comparison, handed, rams, papers)
+    })
+}
+
+/// Where bytes are spoilt, by turns.
+fn spoilt(time: usize) -> &'static [u8] {
+    SPOILS[time % SPOILS.len()]
+}
+
+/// Makes calls with some things wrong.
+pub(super) fn with_wrong(
+    random: &mut Random,
+    wrong: Wrong,
+    time: usize,
+    external: &[u8],
+    calls: impl FnOnce(&mut Random, &Handed, &mut Rams) -> Same,
+) -> Same {
     let page = page(random, wrong.has(1));
     let length = external_length(random, wrong.has(3), time);
-    let spoilt = SPOILS[time % SPOILS.len()];
     let mut record = stored_bytes(&record(random, wrong, length));
     if wrong.has(NO_RECORD) {
-        records::spoil(random, &mut record, spoilt);
+        records::spoil(random, &mut record, spoilt(time));
     }
     let mut rams = Rams::new(vec![0x5A; ram_length(random, wrong.has(2))]);
     let profile = profile(random, wrong.has(18), time);
@@ -160,7 +183,7 @@ fn together(
         record: &record,
         budget: random.pick(&[0, 1, 5, u32::MAX]),
     };
-    run_and_step(comparison, &handed, &mut rams, wrong.told(spoilt))
+    calls(random, &handed, &mut rams)
         .map_err(|found| format!("wrong things {:010b}: {found}", wrong.0))
 }
 

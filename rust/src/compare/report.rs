@@ -15,17 +15,25 @@ const SHORT: usize = 1024;
 
 /// A difference of a step or a run; the library's side comes first.
 pub fn runs(call: &str, handed: &Handed, sides: [(&Given, &[u8]); 2]) -> String {
-    let [(library, library_ram), (second, second_ram)] = sides;
+    let names = ["library", "second program"];
+    format!("{call}\n{}", ends(names, handed, sides))
+}
+
+/// Two ends from one record and RAM that differ, by the names of what led to them.
+pub fn ends(names: [&str; 2], handed: &Handed, sides: [(&Given, &[u8]); 2]) -> String {
+    let [(ours, our_ram), (theirs, their_ram)] = sides;
     let unequal: Vec<String> = (0..)
-        .zip(library_ram.iter().zip(second_ram))
+        .zip(our_ram.iter().zip(their_ram))
         .filter(|(_, (ours, theirs))| ours != theirs)
         .map(|(at, (ours, theirs))| format!("{at}: {ours:02X} {theirs:02X}"))
         .collect();
     format!(
-        "{call}\n{}library: {}\nsecond program: {}\nRAM bytes that differ: {}\n{}\n",
-        handed_over(handed, second_ram.len()),
-        given(library),
-        given(second),
+        "{}{}: {}\n{}: {}\nRAM bytes that differ: {}\n{}\n",
+        handed_over(handed, their_ram.len()),
+        names[0],
+        given(ours),
+        names[1],
+        given(theirs),
         unequal.len(),
         unequal[..unequal.len().min(SHOWN)].join(", "),
     )

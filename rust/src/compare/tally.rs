@@ -3,10 +3,13 @@
 use std::collections::{BTreeMap, BTreeSet};
 use std::fmt;
 
+use marshbodkin::raw::Answer as Numbers;
+
 use super::codes;
 use super::sets;
 use super::short_tally;
 use super::sides::{record_in, Given, Handed, Told, NO_RECORD};
+use super::slices_tally;
 use crate::assemble as asm;
 use crate::names::{self, BAD_WORDS, NARROW, SERVICES, WIDE, WORDS};
 use crate::second::count::{is_fit_place, read_bundle, starts_with_terminator, Reading};
@@ -18,9 +21,15 @@ use crate::second::rules::Rules;
 pub const LEAST_STEPS: u64 = 200_000;
 /// Pages that had to be compared.
 pub const LEAST_PAGES: u64 = 20_000;
+/// Runs that had to be cut into three slices or more.
+const LEAST_SLICED: u64 = 5_000;
+/// What they are counted by.
+pub const SLICED: &str = "runs in three slices or more";
 
+/// The call of a run that is made again with a larger budget.
+pub const LARGER: &str = "larger budget";
 /// The calls, each with what it can answer.
-const ANSWERS: [(&str, &[Told]); 10] = [
+const ANSWERS: [(&str, &[Told]); 11] = [
     ("count", &[Told::ACCEPTED, Told::plain(1), Told::plain(18)]),
     (
         "reader",
@@ -39,6 +48,7 @@ const ANSWERS: [(&str, &[Told]); 10] = [
     ("unpack", &OF_UNPACKING),
     ("step", &OF_A_RUN),
     ("run", &OF_A_RUN),
+    (LARGER, &OF_A_RUN),
 ];
 /// 7 at every field that can fail.
 pub const OF_A_FORM: [Told; 7] = [
@@ -98,15 +108,16 @@ const OF_A_RUN: [Told; 14] = [
     Told::at(NO_RECORD, 43),
 ];
 /// The kinds of stop.
-const STOPS: [&str; 6] = ["budget", "service", "literal", "fault", MARK, "refused"];
+pub const STOPS: [&str; 6] = ["budget", "service", "literal", "fault", MARK, "refused"];
 /// The kind that is never met.
 const MARK: &str = "mark";
-const FAULTS: [&str; 6] = ["1", "2", "3", "4", "5", "6"];
+pub const FAULTS: [&str; 6] = ["1", "2", "3", "4", "5", "6"];
 /// Those of loads and stores by r8 and r9, and the rest.
 const FAULTS_OF_BASES: [&str; 3] = ["1", "2", "3"];
 const OTHER_FAULTS: [&str; 3] = ["4", "5", "6"];
 const READINGS: [&str; 3] = ["bad", "none", "largest"];
-const BASES: [&str; 3] = ["none", "RAM", "external"];
+pub const BASES: [&str; 3] = ["none", "RAM", "external"];
+pub const PLACES: [&str; 2] = ["even", "odd"];
 /// The kinds of exit, and what is none.
 const EXITS: [&str; 11] = [
     "none",
@@ -195,14 +206,21 @@ impl Tally {
     pub fn stop(&mut self, call: &'static str, handed: &Handed, given: &Given) {
         let (code, numbers) = (handed.code, &given.numbers);
         self.call(call, given.told());
-        self.class_under(code, ["stops", SMALL_STOPS], STOPS[numbers.kind as usize]);
-        if numbers.kind == 3 {
-            let fault = FAULTS[numbers.value as usize - 1];
-            self.class_under(code, ["faults", SMALL_FAULTS], fault);
+        self.stopped(["stops", "faults"], numbers);
+        if code.profile == SMALL {
+            self.stopped([SMALL_STOPS, SMALL_FAULTS], numbers);
         }
         self.set("sets run", handed.code);
         self.profile("profiles run", handed.code);
         self.syscall_met(call, handed.code, given);
+    }
+
+    /// Counts a stop, and a fault by its number, in these groups.
+    pub fn stopped(&mut self, [stops, faults]: [&'static str; 2], numbers: &Numbers) {
+        self.class(stops, STOPS[numbers.kind as usize]);
+        if numbers.kind == 3 {
+            self.class(faults, FAULTS[numbers.value as usize - 1]);
+        }
     }
 
     /// Counts an executed step by the instruction at its place.
@@ -218,7 +236,7 @@ impl Tally {
             return;
         }
         self.class_under(handed.code, ["executed", SMALL_EXECUTED], name);
-        self.class("places", if place % 2 == 0 { "even" } else { "odd" });
+        self.class("places", PLACES[place % 2]);
         if BRANCHES.contains(&name) {
             let after = record_in(&given.record).map(|record| usize::from(record.place));
             let taken = after != Some(place + 1);
@@ -276,7 +294,12 @@ impl Tally {
         let never = never.chain(short_tally::NEVER);
         let met = never.filter(|&(group, name)| self.met(group, name) > 0);
         failures.extend(met.map(|(group, name)| format!("{group}: {name} was met")));
-        for (name, least) in [("random steps", LEAST_STEPS), ("pages", LEAST_PAGES)] {
+        let amounts = [
+            ("random steps", LEAST_STEPS),
+            ("pages", LEAST_PAGES),
+            (SLICED, LEAST_SLICED),
+        ];
+        for (name, least) in amounts {
             let met = self.met("amounts", name);
             if met < least {
                 failures.push(format!("only {met} {name}"));
@@ -471,7 +494,7 @@ fn required() -> Vec<(&'static str, &'static str)> {
         .chain(FAULTS.map(|name| ("faults", name)))
         .chain(READINGS.map(|name| ("readings", name)))
         .chain(BASES.map(|name| ("bases", name)))
-        .chain(["even", "odd"].map(|name| ("places", name)))
+        .chain(PLACES.map(|name| ("places", name)))
         .chain(narrow.chain(wide).map(|name| ("executed", name)))
         .chain(branches.clone().map(|&name| ("taken", name)))
         .chain(branches.map(|&name| ("not taken", name)))
@@ -486,6 +509,7 @@ fn required() -> Vec<(&'static str, &'static str)> {
         )
         .chain(required_of_profiles())
         .chain(short_tally::required())
+        .chain(slices_tally::required())
         .collect()
 }
 

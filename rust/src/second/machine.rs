@@ -172,9 +172,10 @@ struct Machine<'a> {
 impl Machine<'_> {
     /// Goes on until the budget is spent or an instruction stops the run.
     fn run(mut self, budget: u32) -> Answer {
+        let allowed = (self.rules.allowed)(budget);
         let mut steps = 0;
         let stop = loop {
-            if steps == budget {
+            if steps == allowed {
                 break Stop::Budget;
             }
             match self.instruction() {

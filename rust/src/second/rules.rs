@@ -23,6 +23,8 @@ pub struct Rules {
     pub counted: fn(Code) -> Result<Page, u8>,
     /// The same for a step or a run.
     pub run: fn(Code) -> Result<Page, u8>,
+    /// How many steps a budget allows.
+    pub allowed: fn(u32) -> u32,
     /// Whether the place stays at an exit.
     pub stays: fn(Exit, NeverReturn) -> bool,
     /// validate(v), with so many bytes of external data.
@@ -48,6 +50,7 @@ impl Rules {
         count,
         counted: |code| Page::new(code),
         run: |code| Page::new(code),
+        allowed: |budget| budget,
         stays: Exit::is_terminator,
         validate,
         unfit,
