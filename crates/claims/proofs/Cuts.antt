@@ -9,12 +9,11 @@ use Rattle.prefix.specs.Prefix.{allWithin, greatestClosed}
 use Rattle.isa.specs.Patterns.{matches}
 use Rattle.isa.specs.ListedEncodings.{opens32, decodeBy}
 use Rattle.isa.specs.Profiles.{rowsIn}
-use Rattle.page.specs.Page.{halfwordAt, wordAt, pageFits}
-use Rattle.service.specs.Services.{serviceOf, byLowByte, literalService}
+use Rattle.page.specs.Page.{halfwordAt, pageFits}
+use Rattle.service.specs.Services.{serviceOf, byLowByte}
 use Rattle.branch.specs.Branches.{bundleAt}
 use Rattle.bundle.specs.Flow.{flowOf}
 use Rattle.bundle.specs.Successors.{successorsOf}
-use Rattle.state.specs.FitRecord.{fitRecord}
 use Rattle.state.specs.Validation.{externalFits}
 use Rattle.state.specs.Record.{freshRecord, withRegister, withPlace}
 use Rattle.stop.specs.Stops.{budget}
@@ -40,7 +39,7 @@ loop-spends zero steps ram = ap (λ n. spentAfter n ram) (omega arith)
 loop-spends (suc left) steps ram = rw (loop-goes-on ram) (loop-spends left (steps + 1) ram ∙ ap (λ n. spentAfter n ram) (omega arith))
 
 pub cuts : (ram : List ℕ) → length ram ≡ 32768 → Cuts ram
-unfolding greatestClosed allWithin successorsOf flowOf bundleAt serviceOf byLowByte literalService halfwordAt wordAt pageFits opens32 decodeBy rowsIn matches instructionOf instructionAt standsIn following effectOf endAt exitOf servedBy served leavesNone serviceDoes applied withRegister withPlace runDecision externalFits fitRecord secondFits fitPlace plain
+unfolding greatestClosed allWithin successorsOf flowOf bundleAt serviceOf byLowByte halfwordAt pageFits opens32 decodeBy rowsIn matches instructionOf instructionAt standsIn following effectOf endAt exitOf servedBy served leavesNone serviceDoes applied withRegister withPlace runDecision externalFits secondFits fitPlace plain
 cuts ram n = record {
   loops = λ a. rw (eq-eqb _ _ n) (loop-spends a 0 ram ∙ ap (λ k. spentAfter k ram) (omega arith));
   first = rw (eq-eqb _ _ n);

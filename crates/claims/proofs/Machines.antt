@@ -6,8 +6,8 @@ use Rattle.refusal.specs.Refusals.{accepted, decision}
 use Rattle.platform.specs.Programs.{Setting, programRules}
 use Rattle.state.specs.declared.Record.{Record}
 use Rattle.plain.specs.PlainMachine.{Result}
-use Rattle.series.specs.Machine.{Handed, Machine, Admits, called}
-use Rattle.series.proofs.Keeps.{Keeps, keeps-too, KeepsAdmitted}
+use Rattle.series.specs.Machine.{Handed, called}
+use Rattle.series.proofs.Keeps.{keeps-too, KeepsAdmitted}
 use Rattle.instruction.specs.Fitness.{Fit, ServiceAt, Known}
 use Rattle.instruction.specs.Instructions.{instructionOf}
 use Rattle.instruction.proofs.Kept.{keeps, starts}

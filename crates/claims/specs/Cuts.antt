@@ -3,7 +3,6 @@
 use Prim.Native.Nat.{ℕ}
 use mathlib.Core.List.{List, [], _∷_}
 use mathlib.Core.Path.{_≡_}
-use lib.ListN.{length}
 use Rattle.platform.specs.Programs.{Setting, defaultProgram, settingOf}
 use Rattle.state.specs.Record.{freshRecord, withRegister, withPlace}
 use Rattle.state.specs.declared.Record.{Record}

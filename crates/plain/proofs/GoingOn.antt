@@ -3,7 +3,7 @@
 use Prim.Native.Nat.{ℕ, zero, suc, _+_}
 use native.Mathlib.Nat.{add-zero, zero-add, suc-add}
 use mathlib.Core.List.{List}
-use mathlib.Core.Path.{_≡_, refl, ap, sym, _∙_}
+use mathlib.Core.Path.{_≡_, refl, _∙_}
 use Rattle.state.specs.declared.Record.{Record}
 use Rattle.stop.specs.Stops.{Reason, budget, service, fault, refused}
 use Rattle.stop.specs.Stops as stops
