@@ -163,7 +163,7 @@ static bool goes_on(host *h, const mb_stopped *stopped)
 }
 
 /* One cycle over some pairs, in slices: as long as a run stops at its budget, the next goes on with record and RAM as they
- * came back, so that where slices are cut changes nothing but how often the host is asked. What is set here starts a new
+ * came back, so that where slices are cut changes nothing but how often mb_run is called. What is set here starts a new
  * series of runs. Return, fault and abort leave the place where they stand; a return leaves the stack to the host, a fault
  * leaves the base. */
 static void cycle(host *h, unsigned first, unsigned number)

@@ -498,8 +498,9 @@ static inline uint32_t mb_unpack(const uint8_t *packed, size_t packed_length, ui
 }
 
 /* Runs a record with a budget of steps. Refused (18, 1, 2, 3, 255, 41, 42, 43, 44, 5):
- * 0 steps. A stop as MB_STOP_BUDGET goes on with record and RAM as they came back: such
- * slices end as one run with the sum of their budgets would, and their steps add up. */
+ * 0 steps. After MB_STOP_BUDGET call again with record and RAM as they came back: such
+ * slices end as one run with the sum of their budgets, at most 4,294,967,295, would, and
+ * their steps add up. */
 static inline uint32_t mb_run(const mb_setting *setting, uint8_t *ram, size_t ram_length,
                               mb_record *record, uint32_t budget, mb_stopped *stopped)
 {

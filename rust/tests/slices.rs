@@ -92,7 +92,7 @@ fn the_part_finds_mistakes_by_itself() {
 fn a_tally_misses_what_was_not_met() {
     let failures = Tally::default().failures();
     for line in [
-        "only 0 runs in three slices or more",
+        "only 0 cuts into three slices or more",
         "larger budget 0 was not met",
         "larger budget 5 was not met",
         "larger budget 18 was not met",

@@ -3,7 +3,6 @@ use Prim.Native.Nat.{ℕ, zero, suc, _+_}
 use native.Mathlib.Omega.{arith}
 use mathlib.Core.List.{List}
 use mathlib.Core.Path.{_≡_, refl, ap, _∙_}
-use lib.ListN.{length}
 use borrow.Author.Tests.{eq-eqb}
 use Rattle.prefix.specs.Prefix.{allWithin, greatestClosed}
 use Rattle.isa.specs.Patterns.{matches}
@@ -23,7 +22,7 @@ use Rattle.place.specs.Places.{standsIn, instructionAt, following, secondFits, 
 use Rattle.instruction.specs.Instructions.{endAt, branchTo, exitOf, servedBy, served, effectOf, instructionOf}
 use Rattle.admission.specs.RunRefusals.{runDecision}
 use Rattle.plain.specs.PlainMachine.{Result, goesOn, plain}
-use Rattle.claims.specs.Cuts.{looping, Cuts}
+use Rattle.claims.specs.Cuts.{looping, CutsInAnyRam}
 
 -- the loop's branch leaves everything as it is
 loop-goes-on : (ram : List ℕ) → instructionOf looping freshRecord ram ≡ goesOn freshRecord ram
@@ -38,7 +37,7 @@ unfolding plain
 loop-spends zero steps ram = ap (λ n. spentAfter n ram) (omega arith)
 loop-spends (suc left) steps ram = rw (loop-goes-on ram) (loop-spends left (steps + 1) ram ∙ ap (λ n. spentAfter n ram) (omega arith))
 
-pub cuts : (ram : List ℕ) → length ram ≡ 32768 → Cuts ram
+pub cuts : CutsInAnyRam
 unfolding greatestClosed allWithin successorsOf flowOf bundleAt serviceOf byLowByte halfwordAt pageFits opens32 decodeBy rowsIn matches instructionOf instructionAt standsIn following effectOf endAt exitOf servedBy served leavesNone serviceDoes applied withRegister withPlace runDecision externalFits secondFits fitPlace plain
 cuts ram n = record {
   loops = λ a. rw (eq-eqb _ _ n) (loop-spends a 0 ram ∙ ap (λ k. spentAfter k ram) (omega arith));

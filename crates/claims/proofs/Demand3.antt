@@ -21,7 +21,8 @@ pub demand3-of : (Call : Type 0) (handed : Call → Handed Setting) (gave : Call
     → Demand3 (machineOf Call handed gave setting) calls start
 demand3-of Call handed gave meets setting allowed start fit calls h =
     series.demand3 (machineOf Call handed gave setting) (keeps-admitted Call handed gave meets setting) calls start
-    (accepts setting (start .rec) (start .ram) (allowed-program setting allowed) (fit .ramFits) (allowed .externalAllowed) (fit .recordFits) (fit .placeFits)) h
+    (accepts setting (start .rec) (start .ram) (allowed-program setting allowed) (fit .ramFits) (allowed .externalAllowed)
+    (fit .recordFits) (fit .placeFits)) h
 
 pub demand3 : (setting : Setting) → Allowed setting → (start : State) → FitStart setting start
     → (calls : List (InSeries CodeCall)) → Series (machine setting) calls start → Demand3 (machine setting) calls start

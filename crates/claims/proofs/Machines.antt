@@ -34,8 +34,8 @@ pub keeps-admitted : (Call : Type 0) (handed : Call → Handed Setting) (gave : 
     → (setting : Setting) → KeepsAdmitted (machineOf Call handed gave setting)
 keeps-admitted Call handed gave meets setting = record {
   keeps = λ r ram a.
-      keeps-too (Fit setting) (λ s after. runDecision setting s after ≡ accepted) (ServiceAt (setting .program) r) Known (still-accepted setting r ram a)
-      (instructionOf setting r ram) (keeps setting (program-allowed setting r ram a) r ram (fit setting r ram a));
+      keeps-too (Fit setting) (λ s after. runDecision setting s after ≡ accepted) (ServiceAt (setting .program) r) Known
+      (still-accepted setting r ram a) (instructionOf setting r ram) (keeps setting (program-allowed setting r ram a) r ram (fit setting r ram a));
   starts = λ r ram a. starts setting (program-allowed setting r ram a) r ram (fit setting r ram a);
   meets = meets setting;
 }

@@ -3,6 +3,7 @@
 use Prim.Native.Nat.{ℕ}
 use mathlib.Core.List.{List, [], _∷_}
 use mathlib.Core.Path.{_≡_}
+use lib.ListN.{length}
 use Rattle.platform.specs.Programs.{Setting, defaultProgram, settingOf}
 use Rattle.state.specs.Record.{freshRecord, withRegister, withPlace}
 use Rattle.state.specs.declared.Record.{Record}
@@ -22,7 +23,6 @@ returning = settingOf (defaultProgram (pageOf (0x2001 ∷ 0xDF00 ∷ []))) []
 abbrev pub atReturn : Record
 atReturn = withPlace (withRegister freshRecord 0 1) 1
 
--- with any RAM of its size
 pub record Cuts (ram : List ℕ) : Type 0 where
   -- a loop spends any budget
   pub loops : (a : ℕ) → runOf looping a freshRecord ram ≡ record { stop = budget; steps = a; rec = freshRecord; ram = ram }
@@ -30,3 +30,7 @@ pub record Cuts (ram : List ℕ) : Type 0 where
   pub first : runOf returning 1 freshRecord ram ≡ record { stop = budget; steps = 1; rec = atReturn; ram = ram }
   pub second : runOf returning 4 atReturn ram ≡ record { stop = service (direct 0); steps = 1; rec = atReturn; ram = ram }
   pub whole : runOf returning 5 freshRecord ram ≡ record { stop = service (direct 0); steps = 2; rec = atReturn; ram = ram }
+
+-- with any RAM of its size
+abbrev pub CutsInAnyRam : Type 0
+CutsInAnyRam = (ram : List ℕ) → length ram ≡ 32768 → Cuts ram

@@ -42,7 +42,7 @@ stop-back unlisted h = refl
 stop-back (refused n values) h = ap (refused n) (sym h)
 
 module _ (c : RecordCall) where
-  abbrev pub ran : Result
+  abbrev ran : Result
   ran = runOf (handedRecord c .setting) (handedRecord c .budget) (handedRecord c .rec) (handedRecord c .ram)
 
   ran-held : Held (ran .rec)
@@ -55,7 +55,7 @@ module _ (c : RecordCall) where
   crossed-ran = crossed-is (c .call) ∙ rw (c .holds)
 
   -- what comes back holds a record
-  left-holds : holdsRecord (crossedBy (c .call) .bytes) ≡ true
+  pub left-holds : holdsRecord (crossedBy (c .call) .bytes) ≡ true
   left-holds = rw crossed-ran (record-holds (ran .rec) ran-held)
 
   pub meets : gaveRecord c ≡ ran

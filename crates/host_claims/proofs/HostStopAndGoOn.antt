@@ -8,7 +8,7 @@ use Rattle.marshbodkin.specs.HostRuns.{crossing}
 use Rattle.host_claims.specs.HostCalls.{HostCall, lentTo, crossedBy}
 use Rattle.host_claims.specs.HostSeries.{RecordCall, handedRecord, gaveRecord, ByteState, lentState}
 use Rattle.host_claims.specs.HostStopAndGoOn.{HostStopAndGoOn}
-use Rattle.host_claims.proofs.HostDemand3.{crossed-ran, meets, keeps-bytes}
+use Rattle.host_claims.proofs.HostDemand3.{crossed-ran, left-holds, meets, keeps-bytes}
 
 same-kept : (c other : HostCall) → lentTo other .setting ≡ lentTo c .setting → lentState other ≡ lentState c
     → holdsRecord (lentTo c .bytes) ≡ false → crossedBy other ≡ crossedBy c
@@ -20,6 +20,7 @@ same-kept c other setting state none =
 pub host-stop-and-go-on : (setting : Setting) → HostStopAndGoOn setting
 host-stop-and-go-on setting = record {
   stop-and-go-on = stop-and-go-on-of RecordCall handedRecord gaveRecord (λ _ c. meets c) setting;
-  crosses = λ c. crossed-ran c ∙ ap crossing (sym (meets c));
+  holds = left-holds;
+  comes-back = λ c. crossed-ran c ∙ ap crossing (sym (meets c));
   no-record = same-kept;
 }

@@ -53,6 +53,6 @@ module _ (instruction : Record → List ℕ → Effect) where
       larger-budget left more 0 r ram ∙ rw (e, spent) (rw (add-zero (x .steps)) at (run-later instruction (x .steps) more 0 (x .rec) (x .ram)))
 
   -- stopped otherwise, a larger budget changes nothing
-  pub ended : (left more steps : ℕ) (r : Record) (ram : List ℕ) → (plain instruction left steps r ram .stop ≡ budget → ⊥)
-      → plain instruction (left + more) steps r ram ≡ plain instruction left steps r ram
-  ended left more steps r ram other = larger-budget left more steps r ram ∙ not-spent _ _ _ other
+  pub ended : (left more : ℕ) (r : Record) (ram : List ℕ) → (plain instruction left 0 r ram .stop ≡ budget → ⊥)
+      → plain instruction (left + more) 0 r ram ≡ plain instruction left 0 r ram
+  ended left more r ram other = larger-budget left more 0 r ram ∙ not-spent _ _ _ other

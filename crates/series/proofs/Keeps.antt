@@ -23,7 +23,7 @@ keeps-leaves Fit ServiceHere Known (exits exit r ram) h = h .0
 keeps-leaves Fit ServiceHere Known (faults f) h = tt
 keeps-leaves Fit ServiceHere Known unlisted h = tt
 
--- what is fit in one sense is in another
+-- if what is fit in one sense is fit in another, what keeps the first keeps the second
 pub keeps-too : (Fit Fit′ : Record → List ℕ → Type 0) (ServiceHere : Exit → Type 0) (Known : ℕ → Type 0)
     → ((r : Record) (ram : List ℕ) → Fit r ram → Fit′ r ram)
     → (e : Effect) → Keeps Fit ServiceHere Known e → Keeps Fit′ ServiceHere Known e
@@ -33,7 +33,7 @@ keeps-too Fit Fit′ ServiceHere Known too (faults f) h = h
 keeps-too Fit Fit′ ServiceHere Known too unlisted h = h
 
 pub record KeepsAdmitted (m : Machine) : Type 0 where
-  -- where a call isn't refused: what an instruction does, which leaves it so; and a listed one starts there
+  -- where a call isn't refused, it isn't after an instruction either; and a listed one starts there
   pub keeps : (r : Record) (ram : List ℕ) → Admits m r ram
       → Keeps (Admits m) (m .ServiceAt r) (m .Known) (m .instruction (m .setting) r ram)
   pub starts : (r : Record) (ram : List ℕ) → Admits m r ram → m .Starts r

@@ -10,8 +10,8 @@ use Rattle.plain.specs.PlainMachine.{Effect, Result, later, plain}
 use Rattle.plain.specs.Calls.{callBy}
 use Rattle.plain.proofs.GoingOn as plain-runs
 use Rattle.series.specs.Machine.{Machine, Accepts, Admits, called, run}
-use Rattle.series.specs.Series.{State, gaveState}
-use Rattle.series.specs.StopAndGoOn.{From, Spent, Slices, budgets, together, NoneRefused, StopAndGoOn}
+use Rattle.series.specs.Series.{State, gaveState, From}
+use Rattle.series.specs.StopAndGoOn.{Spent, Slices, budgets, together, NoneRefused, StopAndGoOn}
 use Rattle.series.proofs.Keeps.{KeepsAdmitted, admits-after}
 use Rattle.series.proofs.Theorems.{ownHanded, handed-own}
 
@@ -27,7 +27,7 @@ call-ended : (d : Decision) (instruction : Record → List ℕ → Effect) (tota
     → callBy d instruction more r ram ≡ callBy d instruction total r ram
 call-ended accepted instruction total more r ram other l =
     let whole : more ≡ total + (more - total) = omega arith in
-    ap (λ n. plain instruction n 0 r ram) whole ∙ plain-runs.ended instruction total (more - total) 0 r ram other
+    ap (λ n. plain instruction n 0 r ram) whole ∙ plain-runs.ended instruction total (more - total) r ram other
 call-ended (refused n values) instruction total more r ram other l = refl
 
 module _ (m : Machine) (k : KeepsAdmitted m) where
@@ -67,37 +67,36 @@ module _ (m : Machine) (k : KeepsAdmitted m) where
   first-from s c [] h = h
   first-from s c (next ∷ cs) h = h .0
 
+  none-refused : (s : State) (c : m .Call) (cs : List (m .Call)) → Slices m s c cs → NoneRefused m cs
+  none-refused s c [] h = tt
+  none-refused s c (next ∷ cs) h =
+      (next-accepted s c next (h .0) (h .1) (first-from (gaveState m c) next cs (h .2)), none-refused (gaveState m c) next cs (h .2))
+
   -- they are one call with the sum of their budgets
-  as-one : (s : State) (c : m .Call) (cs : List (m .Call)) → Slices m s c cs
-      → NoneRefused m cs × (together m c cs ≡ givenFrom s (budgets m c cs))
-  as-one s c [] h = (tt, gave-from s c h)
+  as-one : (s : State) (c : m .Call) (cs : List (m .Call)) → Slices m s c cs → together m c cs ≡ givenFrom s (budgets m c cs)
+  as-one s c [] h = gave-from s c h
   as-one s c (next ∷ cs) h =
-      let rest = as-one (gaveState m c) next cs (h .2) in (
-        (next-accepted s c next (h .0) (h .1) (first-from (gaveState m c) next cs (h .2)), rest .0),
-        ap (later (m .gave c .steps)) (rest .1) ∙ goes-farther s c (h .0) (h .1) (budgets m next cs),
-      )
+      ap (later (m .gave c .steps)) (as-one (gaveState m c) next cs (h .2)) ∙ goes-farther s c (h .0) (h .1) (budgets m next cs)
 
   with-sum : (s : State) (c : m .Call) (cs : List (m .Call)) (whole : m .Call) → Slices m s c cs
-      → From m s whole → m .handed whole .budget ≡ budgets m c cs → NoneRefused m cs × (m .gave whole ≡ together m c cs)
-  with-sum s c cs whole h w e =
-      let one = as-one s c cs h in
-      (one .0, gave-from s whole w ∙ ap (givenFrom s) e ∙ sym (one .1))
+      → From m s whole → m .handed whole .budget ≡ budgets m c cs → m .gave whole ≡ together m c cs
+  with-sum s c cs whole h w e = gave-from s whole w ∙ ap (givenFrom s) e ∙ sym (as-one s c cs h)
 
-  with-more : (s : State) (c : m .Call) (cs : List (m .Call)) (whole : m .Call) → Slices m s c cs → (together m c cs .stop ≡ budget → ⊥)
-      → From m s whole → budgets m c cs ≤ m .handed whole .budget → m .gave whole ≡ together m c cs
-  with-more s c cs whole h other w l =
-      let one = as-one s c cs h .1 in
-      gave-from s whole w
-      ∙ call-ended (m .decision (m .setting) (s .rec) (s .ram)) (m .instruction (m .setting)) (budgets m c cs) (m .handed whole .budget) (s .rec) (s .ram)
-      (λ spent. other (ap (λ (x : Result). x .stop) one ∙ spent)) l
+  with-more : (s : State) (c : m .Call) (cs : List (m .Call)) (longer : m .Call) → Slices m s c cs → (together m c cs .stop ≡ budget → ⊥)
+      → From m s longer → budgets m c cs ≤ m .handed longer .budget → m .gave longer ≡ together m c cs
+  with-more s c cs longer h other w l =
+      let one = as-one s c cs h in
+      gave-from s longer w
+      ∙ call-ended (m .decision (m .setting) (s .rec) (s .ram)) (m .instruction (m .setting)) (budgets m c cs) (m .handed longer .budget)
+      (s .rec) (s .ram) (λ spent. other (ap (λ (x : Result). x .stop) one ∙ spent)) l
       ∙ sym one
 
   pub stop-and-go-on : StopAndGoOn m
   stop-and-go-on = record {
-    goes-on = λ s first second whole f spent g w e.
-        let both = with-sum s first (second ∷ []) whole (f, spent, g) w e in
-        (both .0 .0, both .1);
-    larger = λ s first whole f other w l. with-more s first [] whole f other w l;
+    goes-on = λ s first second whole f spent g. with-sum s first (second ∷ []) whole (f, spent, g);
+    not-refused = next-accepted;
+    larger = λ s first longer f other. with-more s first [] longer f other;
     slices = with-sum;
-    ended = with-more;
+    none-refused = none-refused;
+    slices-larger = with-more;
   }

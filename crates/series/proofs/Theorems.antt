@@ -11,7 +11,7 @@ use Rattle.plain.specs.PlainMachine.{Effect, goesOn, exits, faults, unlisted, R
 use Rattle.plain.proofs.Runs.{run-goes-on, smaller-budget-spent}
 use Rattle.series.specs.HandedOn.{InSeries, own, other, callIn, HandedIn, leftBy}
 use Rattle.series.specs.Machine.{Handed, Machine, Refuses, Admits, refusedBy, called, run}
-use Rattle.series.specs.Series.{State, stateOf, handedState, gaveState, OwnSetting, Series, fed, plainResult, plainAfter, plainResults, plainState}
+use Rattle.series.specs.Series.{State, stateOf, handedState, gaveState, OwnSetting, From, Series, fed, plainResult, plainAfter, plainResults, plainState}
 use Rattle.series.specs.Demand3.{StopsBy, OwnCall, SoundCall, Demand3}
 use Rattle.series.proofs.Keeps.{Keeps, KeepsAdmitted, admits-after}
 
@@ -25,7 +25,7 @@ module _ (m : Machine) where
   abbrev pub ownHanded : ℕ → Record → List ℕ → Handed (m .Setting)
   ownHanded total r ram = record { setting = m .setting; budget = total; rec = r; ram = ram }
 
-  pub handed-own : (s : State) (c : m .Call) → OwnSetting m c × (handedState m c ≡ s)
+  pub handed-own : (s : State) (c : m .Call) → From m s c
       → m .handed c ≡ ownHanded (m .handed c .budget) (s .rec) (s .ram)
   handed-own s c h i = record { setting = h .0 i; budget = m .handed c .budget; rec = h .1 i .rec; ram = h .1 i .ram }
 

@@ -1,4 +1,4 @@
--- The machine that demand 3 speaks of: any instruction, any table of refusals, any calls.
+-- The machine that demand 3, and stop and go on, speak of: any instruction, any table of refusals, any calls.
 use Prim.Native.Nat.{ℕ}
 use mathlib.Core.List.{List}
 use mathlib.Core.Path.{_≡_}
@@ -18,7 +18,7 @@ pub record Handed (Setting : Type 0) : Type 0 where
 
 pub record Machine : Type 1 where
   pub Setting : Type 0
-  -- what all calls get but a series' refused ones
+  -- what a series' own calls and all slices get
   pub setting : Setting
   pub instruction : Setting → Record → List ℕ → Effect
   pub decision : Setting → Record → List ℕ → Decision

@@ -26,6 +26,10 @@ module _ (m : Machine) where
   abbrev pub OwnSetting : m .Call → Type 0
   OwnSetting c = m .handed c .setting ≡ m .setting
 
+  -- a call from this record and RAM; all else that is given, its budget aside, is the machine's setting
+  abbrev pub From : State → m .Call → Type 0
+  From s c = OwnSetting c × (handedState c ≡ s)
+
   -- its own calls get the one setting; the others are calls that the papers refuse
   abbrev pub Series : List (InSeries (m .Call)) → State → Type 0
   Series = HandedOn gaveState handedState OwnSetting (λ c. Refuses m (m .handed c))

@@ -21,10 +21,10 @@ use crate::second::rules::Rules;
 pub const LEAST_STEPS: u64 = 200_000;
 /// Pages that had to be compared.
 pub const LEAST_PAGES: u64 = 20_000;
-/// Runs that had to be cut into three slices or more.
+/// Cuts into three slices or more that had to be made.
 const LEAST_SLICED: u64 = 5_000;
 /// What they are counted by.
-pub const SLICED: &str = "runs in three slices or more";
+pub const SLICED: &str = "cuts into three slices or more";
 
 /// The call of a run that is made again with a larger budget.
 pub const LARGER: &str = "larger budget";
