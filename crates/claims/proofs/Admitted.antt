@@ -12,16 +12,46 @@ use Rattle.platform.specs.Programs.{programRules, Setting}
 use Rattle.platform.proofs.Theorems.{program-accepts}
 use Rattle.count.specs.Count.{countOf}
 use Rattle.state.specs.FitRecord.{fitRecord}
+use Rattle.state.specs.Validation.{externalFits}
+use Rattle.state.specs.declared.Record.{Record}
 use Rattle.state.specs.Record.{freshRecord, withPlace}
 use Rattle.place.specs.Places.{fitPlace}
+use Rattle.series.specs.Series.{State}
+use Rattle.instruction.specs.Fitness.{Fit}
 use Rattle.instruction.proofs.FitPlaces.{bundle-fits}
 use Rattle.admission.specs.RunRefusals.{runDecision}
-use Rattle.admission.proofs.Theorems.{accepts}
+use Rattle.admission.proofs.Theorems.{accepts, accepted-all}
 use Rattle.claims.specs.Demand3.{Allowed, FitStart}
+
+-- ---- what is not refused
+
+pub record AllowedAndFit (setting : Setting) (r : Record) (ram : List ℕ) : Type 0 where
+  pub programAllowed : decision (programRules (setting .program)) ≡ accepted
+  pub dataAllowed : externalFits (length (setting .external)) ≡ true
+  pub fits : Fit setting r ram
+
+-- what is allowed and fit is not refused, and what is not refused is allowed and fit
+pub allowed-admitted : (setting : Setting) (r : Record) (ram : List ℕ) → AllowedAndFit setting r ram → runDecision setting r ram ≡ accepted
+allowed-admitted setting r ram h =
+    accepts setting r ram (h .programAllowed) (h .fits .ramFits) (h .dataAllowed) (h .fits .recordFits) (h .fits .placeFits)
+
+pub admitted-allowed : (setting : Setting) (r : Record) (ram : List ℕ) → runDecision setting r ram ≡ accepted → AllowedAndFit setting r ram
+admitted-allowed setting r ram a =
+    let all = accepted-all setting r ram a in
+    record { programAllowed = all .0; dataAllowed = all .2; fits = record { recordFits = all .3; placeFits = all .4; ramFits = all .1 } }
+
+-- ---- what may be run
 
 -- its program is not refused
 pub allowed-program : (setting : Setting) → Allowed setting → decision (programRules (setting .program)) ≡ accepted
 allowed-program setting allowed = program-accepts (setting .program) (allowed .profileKnown) (allowed .pageAllowed)
+
+-- where a series may start, a call is not refused
+pub allowed-start : (setting : Setting) → Allowed setting → (start : State) → FitStart setting start
+    → runDecision setting (start .rec) (start .ram) ≡ accepted
+allowed-start setting allowed start fit =
+    allowed-admitted setting (start .rec) (start .ram)
+    (record { programAllowed = allowed-program setting allowed; dataAllowed = allowed .externalAllowed; fits = fit })
 
 fresh-fits : (k external : ℕ) → fitRecord (withPlace freshRecord k) external ≡ true
 unfolding fitRecord withPlace
@@ -41,8 +71,7 @@ fresh-starts setting allowed ram n k l = record {
 pub admitted : (setting : Setting) → Allowed setting → (ram : List ℕ) → length ram ≡ 32768
     → (k : ℕ) → k < countOf (setting .program) → runDecision setting (withPlace freshRecord (2 * k)) ram ≡ accepted
 admitted setting allowed ram n k l =
-    let f = fresh-starts setting allowed ram n k l in
-    accepts setting _ ram (allowed-program setting allowed) n (allowed .externalAllowed) (f .recordFits) (f .placeFits)
+    allowed-start setting allowed (record { rec = withPlace freshRecord (2 * k); ram = ram }) (fresh-starts setting allowed ram n k l)
 
 pub none-admitted : (setting : Setting) → Allowed setting → (ram : List ℕ) → length ram ≡ 32768
     → countOf (setting .program) ≡ 0 → runDecision setting freshRecord ram ≡ refused 5 []

@@ -8,8 +8,7 @@ use Rattle.series.specs.Machine.{Handed, called}
 use Rattle.series.specs.Series.{State, Series}
 use Rattle.series.specs.Demand3.{Demand3}
 use Rattle.series.proofs.Theorems as series
-use Rattle.admission.proofs.Theorems.{accepts}
-use Rattle.claims.proofs.Admitted.{allowed-program}
+use Rattle.claims.proofs.Admitted.{allowed-start}
 use Rattle.claims.proofs.Machines.{keeps-admitted, meets}
 use Rattle.claims.specs.Demand3.{Allowed, FitStart, machineOf, CodeCall, handedTo, gaveBy, machine}
 
@@ -21,8 +20,7 @@ pub demand3-of : (Call : Type 0) (handed : Call → Handed Setting) (gave : Call
     → Demand3 (machineOf Call handed gave setting) calls start
 demand3-of Call handed gave meets setting allowed start fit calls h =
     series.demand3 (machineOf Call handed gave setting) (keeps-admitted Call handed gave meets setting) calls start
-    (accepts setting (start .rec) (start .ram) (allowed-program setting allowed) (fit .ramFits) (allowed .externalAllowed)
-    (fit .recordFits) (fit .placeFits)) h
+    (allowed-start setting allowed start fit) h
 
 pub demand3 : (setting : Setting) → Allowed setting → (start : State) → FitStart setting start
     → (calls : List (InSeries CodeCall)) → Series (machine setting) calls start → Demand3 (machine setting) calls start

@@ -25,14 +25,15 @@ use Rattle.state.specs.declared.Record.{Record}
 use Rattle.place.specs.Places.{fitPlace}
 use Rattle.plain.specs.Calls.{callBy}
 use Rattle.plain.proofs.Runs.{run-keeps}
-use Rattle.series.proofs.Keeps.{keeps-leaves}
+use Rattle.series.proofs.Keeps.{admits-after}
 use Rattle.admission.specs.RunRefusals.{runDecision}
-use Rattle.admission.proofs.Theorems.{accepted-all}
-use Rattle.instruction.specs.Fitness.{Fit, ServiceAt, Known}
+use Rattle.instruction.specs.Fitness.{Fit}
 use Rattle.instruction.specs.Instructions.{instructionOf}
-use Rattle.instruction.proofs.Kept.{keeps}
 use Rattle.instruction.proofs.WordsKept.{Words, words-kept}
 use Rattle.machine.specs.Runs.{runOf}
+use Rattle.claims.specs.Demand3.{machine}
+use Rattle.claims.proofs.Admitted.{admitted-allowed}
+use Rattle.claims.proofs.Machines.{code-keeps}
 use Rattle.layout.specs.StoredForm.{storedForm, decode, baseOf, recordIn, Held}
 use Rattle.layout.proofs.Fields.{decode-below}
 use Rattle.host_claims.specs.HostCalls.{Bytes}
@@ -104,28 +105,14 @@ fit-held setting r ram p e f w =
 
 -- ---- a run
 
--- what is not refused is allowed and fit
-record Accepts (setting : Setting) (r : Record) (ram : List ℕ) : Type 0 where
-  allowedProgram : decision (programRules (setting .program)) ≡ accepted
-  allowedData : externalFits (length (setting .external)) ≡ true
-  fits : Fit setting r ram
-
-accepted-fits : (setting : Setting) (r : Record) (ram : List ℕ) → runDecision setting r ram ≡ accepted → Accepts setting r ram
-accepted-fits setting r ram e =
-    let h = accepted-all setting r ram e in
-    record { allowedProgram = h .0; allowedData = h .2; fits = record { recordFits = h .3; placeFits = h .4; ramFits = h .1 } }
-
 module _ (setting : Setting) (p : Bytes (setting .program .page)) (e : Bytes (setting .external)) (total : ℕ) (r : Record) (ram : List ℕ) (h : Held r) (m : Bytes ram) where
   pub held-after : Held (runOf setting total r ram .rec)
   held-after = go (runDecision setting r ram) refl
     where
       go : (v : Decision) → runDecision setting r ram ≡ v → Held (callBy v (instructionOf setting) total r ram .rec)
       go accepted q =
-          let a = accepted-fits setting r ram q in
-          fit-held setting _ _ (a .allowedProgram) (a .allowedData)
-          (run-keeps (instructionOf setting) (Fit setting)
-          (λ s after f. keeps-leaves (Fit setting) (ServiceAt (setting .program) s) Known (instructionOf setting s after) (keeps setting (a .allowedProgram) s after f))
-          total 0 r ram (a .fits))
+          let after = admitted-allowed setting _ _ (admits-after (machine setting) (code-keeps setting) total r ram q) in
+          fit-held setting _ _ (after .programAllowed) (after .dataAllowed) (after .fits)
           (run-keeps (instructionOf setting) Words (λ s after w. words-kept setting p e s after w)
           total 0 r ram (record { eight = h .eight; words = h .words; bytes = m }))
       go (refused n values) q = h

@@ -16,7 +16,7 @@ Keeps Fit ServiceHere Known (exits exit r ram) = Fit r ram × ServiceHere exit
 Keeps Fit ServiceHere Known (faults f) = Known (faultNumber f)
 Keeps Fit ServiceHere Known unlisted = ⊥
 
-pub keeps-leaves : (Fit : Record → List ℕ → Type 0) (ServiceHere : Exit → Type 0) (Known : ℕ → Type 0) (e : Effect)
+keeps-leaves : (Fit : Record → List ℕ → Type 0) (ServiceHere : Exit → Type 0) (Known : ℕ → Type 0) (e : Effect)
     → Keeps Fit ServiceHere Known e → Leaves Fit e
 keeps-leaves Fit ServiceHere Known (goesOn r ram) h = h
 keeps-leaves Fit ServiceHere Known (exits exit r ram) h = h .0

@@ -13,7 +13,7 @@ use Rattle.series.specs.Machine.{Machine, Accepts, Admits, called, run}
 use Rattle.series.specs.Series.{State, gaveState, From}
 use Rattle.series.specs.StopAndGoOn.{Spent, Slices, budgets, together, NoneRefused, StopAndGoOn}
 use Rattle.series.proofs.Keeps.{KeepsAdmitted, admits-after}
-use Rattle.series.proofs.Theorems.{ownHanded, handed-own}
+use Rattle.series.proofs.Theorems.{ownHanded, handed-own, gave-from}
 
 -- a call that stopped because its budget was spent was not refused
 spent-accepted : (d : Decision) (instruction : Record → List ℕ → Effect) (total : ℕ) (r : Record) (ram : List ℕ)
@@ -35,18 +35,15 @@ module _ (m : Machine) (k : KeepsAdmitted m) where
   abbrev givenFrom : State → ℕ → Result
   givenFrom s total = called m (ownHanded m total (s .rec) (s .ram))
 
-  gave-from : (s : State) (c : m .Call) → From m s c → m .gave c ≡ givenFrom s (m .handed c .budget)
-  gave-from s c h = k .meets c ∙ ap (called m) (handed-own m s c h)
-
   -- ---- a call that stopped because its budget was spent
 
   was-admitted : (s : State) (c : m .Call) → From m s c → Spent m c → Admits m (s .rec) (s .ram)
   was-admitted s c h spent =
       spent-accepted (m .decision (m .setting) (s .rec) (s .ram)) (m .instruction (m .setting)) (m .handed c .budget) (s .rec) (s .ram)
-      (ap (λ (x : Result). x .stop) (sym (gave-from s c h)) ∙ spent)
+      (ap (λ (x : Result). x .stop) (sym (gave-from m k s c h)) ∙ spent)
 
   ran : (s : State) (c : m .Call) → From m s c → Spent m c → m .gave c ≡ run m (m .handed c .budget) (s .rec) (s .ram)
-  ran s c h spent = gave-from s c h ∙ rw (was-admitted s c h spent)
+  ran s c h spent = gave-from m k s c h ∙ rw (was-admitted s c h spent)
 
   next-admitted : (s : State) (c : m .Call) → From m s c → Spent m c → Admits m (m .gave c .rec) (m .gave c .ram)
   next-admitted s c h spent =
@@ -74,19 +71,19 @@ module _ (m : Machine) (k : KeepsAdmitted m) where
 
   -- they are one call with the sum of their budgets
   as-one : (s : State) (c : m .Call) (cs : List (m .Call)) → Slices m s c cs → together m c cs ≡ givenFrom s (budgets m c cs)
-  as-one s c [] h = gave-from s c h
+  as-one s c [] h = gave-from m k s c h
   as-one s c (next ∷ cs) h =
       ap (later (m .gave c .steps)) (as-one (gaveState m c) next cs (h .2)) ∙ goes-farther s c (h .0) (h .1) (budgets m next cs)
 
   with-sum : (s : State) (c : m .Call) (cs : List (m .Call)) (whole : m .Call) → Slices m s c cs
       → From m s whole → m .handed whole .budget ≡ budgets m c cs → m .gave whole ≡ together m c cs
-  with-sum s c cs whole h w e = gave-from s whole w ∙ ap (givenFrom s) e ∙ sym (as-one s c cs h)
+  with-sum s c cs whole h w e = gave-from m k s whole w ∙ ap (givenFrom s) e ∙ sym (as-one s c cs h)
 
   with-more : (s : State) (c : m .Call) (cs : List (m .Call)) (longer : m .Call) → Slices m s c cs → (together m c cs .stop ≡ budget → ⊥)
       → From m s longer → budgets m c cs ≤ m .handed longer .budget → m .gave longer ≡ together m c cs
   with-more s c cs longer h other w l =
       let one = as-one s c cs h in
-      gave-from s longer w
+      gave-from m k s longer w
       ∙ call-ended (m .decision (m .setting) (s .rec) (s .ram)) (m .instruction (m .setting)) (budgets m c cs) (m .handed longer .budget)
       (s .rec) (s .ram) (λ spent. other (ap (λ (x : Result). x .stop) one ∙ spent)) l
       ∙ sym one

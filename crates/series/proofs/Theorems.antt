@@ -76,6 +76,10 @@ module _ (m : Machine) (k : KeepsAdmitted m) where
 
   -- ---- the series
 
+  -- what a call gives from here
+  pub gave-from : (s : State) (c : m .Call) → From m s c → m .gave c ≡ called m (ownHanded m (m .handed c .budget) (s .rec) (s .ram))
+  gave-from s c h = k .meets c ∙ ap (called m) (handed-own m s c h)
+
   -- a call is as claimed; after it the next isn't refused; the state is the plain machine's; and it gave what the plain machine gives
   record Goes (c : InSeries (m .Call)) (s : State) : Type 0 where
     sound : SoundCall m c
@@ -85,11 +89,10 @@ module _ (m : Machine) (k : KeepsAdmitted m) where
 
   goes : (c : InSeries (m .Call)) (s : State) → Admits m (s .rec) (s .ram) → HandedIn (gaveState m) (handedState m) (OwnSetting m) (λ c. Refuses m (m .handed c)) c s → Goes c s
   goes (own c) s a h =
-      let handed = handed-own m s c h in
       let gave : m .gave c ≡ run m (m .handed c .budget) (s .rec) (s .ram) =
-      k .meets c ∙ ap (called m) handed ∙ rw a in
+      gave-from s c h ∙ rw a in
       record {
-        sound = subst (OwnCall m (m .handed c)) (sym gave) (own-there handed);
+        sound = subst (OwnCall m (m .handed c)) (sym gave) (own-there (handed-own m s c h));
         admits = rw gave (admits-after m k (m .handed c .budget) (s .rec) (s .ram) a);
         gives = gave;
         leaves = ap stateOf gave;
