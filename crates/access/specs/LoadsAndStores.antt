@@ -6,6 +6,7 @@ use lib.Dec.{ltb, eqb}
 use Rattle.endian.specs.declared.Size.{Size}
 use Rattle.endian.specs.declared.Size.the-variants.{Byte, Halfword, Word}
 use Rattle.page.specs.Page.{bundlesIn, wordAt}
+use Rattle.window.specs.declared.Window.{Window}
 use Rattle.memory.specs.Memory.{ramLoaded, ramStored, ramAfter, loadedBy, storedBy, afterStoreBy, signedLoaded}
 use Rattle.memory.specs.declared.Fault.the-variants.{PastStack, LowStack, PastPage}
 use Rattle.memory.specs.declared.Loaded.{Loaded}
@@ -19,24 +20,24 @@ use Rattle.state.specs.Record.{register}
 use Rattle.state.specs.declared.Record.{Record}
 use Rattle.access.specs.Outcomes.{Outcome, loadTo, storeWith}
 
--- ---- the stack: a word at an address, which is SP and more, without wrapping. Past 0x18000 is fault 4. Below 0x10000 it is SP
--- that lies there, fault 5; no fit record has such an SP
+-- ---- the stack: a word at an address, which is SP and more, without wrapping. Past 0x18000 is fault 4, then outside the window
+-- fault 7. Below 0x10000 it is SP that lies there, fault 5; no fit record has such an SP
 
-unfoldable pub stackLoaded : List ℕ → ℕ → Loaded
-stackLoaded ram address =
-    cond (ltb address 0x10000) (loaded.Fails LowStack) (ramLoaded ram (address - 0x10000) Word PastStack)
+unfoldable pub stackLoaded : Window → List ℕ → ℕ → Loaded
+stackLoaded window ram address =
+    cond (ltb address 0x10000) (loaded.Fails LowStack) (ramLoaded window ram (address - 0x10000) Word PastStack)
 
-unfoldable pub stackStored : ℕ → Stored
-stackStored address = cond (ltb address 0x10000) (stored.Fails LowStack) (ramStored (address - 0x10000) Word PastStack)
+unfoldable pub stackStored : Window → ℕ → Stored
+stackStored window address = cond (ltb address 0x10000) (stored.Fails LowStack) (ramStored window (address - 0x10000) Word PastStack)
 
-unfoldable pub afterStackStore : List ℕ → ℕ → ℕ → List ℕ
-afterStackStore ram address x = cond (ltb address 0x10000) ram (ramAfter ram (address - 0x10000) Word x)
+unfoldable pub afterStackStore : Window → List ℕ → ℕ → ℕ → List ℕ
+afterStackStore window ram address x = cond (ltb address 0x10000) ram (ramAfter window ram (address - 0x10000) Word x)
 
-abbrev pub loadAt : Record → List ℕ → ℕ → ℕ → Outcome
-loadAt r ram t address = loadTo r ram t (stackLoaded ram address)
+abbrev pub loadAt : Record → Window → List ℕ → ℕ → ℕ → Outcome
+loadAt r window ram t address = loadTo r ram t (stackLoaded window ram address)
 
-abbrev pub storeAt : Record → List ℕ → ℕ → ℕ → Outcome
-storeAt r ram t address = storeWith r (stackStored address) (afterStackStore ram address (register r t))
+abbrev pub storeAt : Record → Window → List ℕ → ℕ → ℕ → Outcome
+storeAt r window ram t address = storeWith r (stackStored window address) (afterStackStore window ram address (register r t))
 
 -- ---- the literal pool: in bundle k, the word of bundle k + 1 + imm8, from either half; past the page is fault 6
 
@@ -46,30 +47,30 @@ literalLoaded page place imm8 =
 
 -- ---- by the base: stores by r9; loads by r8 or r9, of which r9 needs a RAM base
 
-abbrev pub storeBase : Record → List ℕ → Size → ℕ → ℕ → Outcome
-storeBase r ram size t imm12 =
-    storeWith r (storedBy (r .base) imm12 size) (afterStoreBy (r .base) ram imm12 size (register r t))
+abbrev pub storeBase : Record → Window → List ℕ → Size → ℕ → ℕ → Outcome
+storeBase r window ram size t imm12 =
+    storeWith r (storedBy (r .base) window imm12 size) (afterStoreBy (r .base) window ram imm12 size (register r t))
 
-abbrev pub loadedBase : Record → List ℕ → List ℕ → Size → ℕ → ℕ → Loaded
-loadedBase r ram external size n imm12 = loadedBy (r .base) (eqb n 9) ram external imm12 size
+abbrev pub loadedBase : Record → Window → List ℕ → List ℕ → Size → ℕ → ℕ → Loaded
+loadedBase r window ram external size n imm12 = loadedBy (r .base) (eqb n 9) window ram external imm12 size
 
-abbrev pub loadBase : Record → List ℕ → List ℕ → Size → ℕ → ℕ → ℕ → Outcome
-loadBase r ram external size n t imm12 = loadTo r ram t (loadedBase r ram external size n imm12)
+abbrev pub loadBase : Record → Window → List ℕ → List ℕ → Size → ℕ → ℕ → ℕ → Outcome
+loadBase r window ram external size n t imm12 = loadTo r ram t (loadedBase r window ram external size n imm12)
 
-abbrev pub loadSigned : Record → List ℕ → List ℕ → Size → ℕ → ℕ → ℕ → Outcome
-loadSigned r ram external size n t imm12 = loadTo r ram t (signedLoaded size (loadedBase r ram external size n imm12))
+abbrev pub loadSigned : Record → Window → List ℕ → List ℕ → Size → ℕ → ℕ → ℕ → Outcome
+loadSigned r window ram external size n t imm12 = loadTo r ram t (signedLoaded size (loadedBase r window ram external size n imm12))
 
 -- ---- the instructions, in the order of the listed encodings, with the operands of their encoding
 
-unfoldable pub accessed : List ℕ → List ℕ → Access → Record → List ℕ → Outcome
-accessed page external (LdrLit t imm8) r ram = loadTo r ram t (literalLoaded page (r .place) imm8)
-accessed page external (StrSp t imm8) r ram = storeAt r ram t (r .sp + 4 * imm8)
-accessed page external (LdrSp t imm8) r ram = loadAt r ram t (r .sp + 4 * imm8)
-accessed page external (Str t imm12) r ram = storeBase r ram Word t imm12
-accessed page external (Strb t imm12) r ram = storeBase r ram Byte t imm12
-accessed page external (Strh t imm12) r ram = storeBase r ram Halfword t imm12
-accessed page external (Ldr n t imm12) r ram = loadBase r ram external Word n t imm12
-accessed page external (Ldrb n t imm12) r ram = loadBase r ram external Byte n t imm12
-accessed page external (Ldrh n t imm12) r ram = loadBase r ram external Halfword n t imm12
-accessed page external (Ldrsb n t imm12) r ram = loadSigned r ram external Byte n t imm12
-accessed page external (Ldrsh n t imm12) r ram = loadSigned r ram external Halfword n t imm12
+unfoldable pub accessed : List ℕ → List ℕ → Window → Access → Record → List ℕ → Outcome
+accessed page external window (LdrLit t imm8) r ram = loadTo r ram t (literalLoaded page (r .place) imm8)
+accessed page external window (StrSp t imm8) r ram = storeAt r window ram t (r .sp + 4 * imm8)
+accessed page external window (LdrSp t imm8) r ram = loadAt r window ram t (r .sp + 4 * imm8)
+accessed page external window (Str t imm12) r ram = storeBase r window ram Word t imm12
+accessed page external window (Strb t imm12) r ram = storeBase r window ram Byte t imm12
+accessed page external window (Strh t imm12) r ram = storeBase r window ram Halfword t imm12
+accessed page external window (Ldr n t imm12) r ram = loadBase r window ram external Word n t imm12
+accessed page external window (Ldrb n t imm12) r ram = loadBase r window ram external Byte n t imm12
+accessed page external window (Ldrh n t imm12) r ram = loadBase r window ram external Halfword n t imm12
+accessed page external window (Ldrsb n t imm12) r ram = loadSigned r window ram external Byte n t imm12
+accessed page external window (Ldrsh n t imm12) r ram = loadSigned r window ram external Halfword n t imm12

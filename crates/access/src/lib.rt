@@ -8,6 +8,7 @@ use memory::Fault;
 use memory::Loaded;
 use memory::Stored;
 use state::Record;
+use window::Window;
 use writing::Write;
 use writing::Writes;
 
@@ -19,23 +20,30 @@ pub enum Did {
 
 // ---- the stack
 
-fn stack_load(ram: &[u8], address: usize) -> Loaded
-    ensures { λ l. ⌜ l ≡ stackLoaded (now (ram .entry)) address ⌝ }
+fn stack_load(window: Window, ram: &[u8], address: usize) -> Loaded
+    ensures { λ l. ⌜ l ≡ stackLoaded window (now (ram .entry)) address ⌝ }
 {
     if address < 0x10000 {
         Loaded::Fails(Fault::LowStack)
     } else {
-        memory::ram_load(ram, address - 0x10000, Size::Word, Fault::PastStack)
+        memory::ram_load(window, ram, address - 0x10000, Size::Word, Fault::PastStack)
     }
 }
 
-fn stack_store(ram: &mut [u8], address: usize, x: u32) -> Stored
-    ensures { λ s. ⌜ (s ≡ stackStored address) × (now (ram .exit) ≡ afterStackStore (now (ram .entry)) address x) ⌝ }
+fn stack_store(window: Window, ram: &mut [u8], address: usize, x: u32) -> Stored
+    ensures { λ s. ⌜ (s ≡ stackStored window address) × (now (ram .exit) ≡ afterStackStore window (now (ram .entry)) address x) ⌝ }
 {
     if address < 0x10000 {
         Stored::Fails(Fault::LowStack)
     } else {
-        memory::ram_store(ram, address - 0x10000, Size::Word, x, Fault::PastStack)
+        memory::ram_store(
+            window,
+            ram,
+            address - 0x10000,
+            Size::Word,
+            x,
+            Fault::PastStack,
+        )
     }
 }
 
@@ -61,17 +69,20 @@ fn stored(r: Record, s: Stored) -> Did
 }
 
 // Register t from the stack.
-pub fn load_at(r: Record, ram: &[u8], t: u8, address: usize) -> Did
-    ensures { λ d. ⌜ d ≡ didOf (loadAt r (now (ram .entry)) t address) ⌝ }
+pub fn load_at(r: Record, window: Window, ram: &[u8], t: u8, address: usize) -> Did
+    ensures { λ d. ⌜ d ≡ didOf (loadAt r window (now (ram .entry)) t address) ⌝ }
 {
-    load_to(r, t, stack_load(ram, address))
+    load_to(r, t, stack_load(window, ram, address))
 }
 
 // Register t to the stack.
-pub fn store_at(r: Record, ram: &mut [u8], t: u8, address: usize) -> Did
-    ensures { λ d. ⌜ Does (now (ram .entry)) (storeAt r (now (ram .entry)) t address) d (now (ram .exit)) ⌝ }
+pub fn store_at(r: Record, window: Window, ram: &mut [u8], t: u8, address: usize) -> Did
+    ensures { λ d. ⌜ Does (now (ram .entry)) (storeAt r window (now (ram .entry)) t address) d (now (ram .exit)) ⌝ }
 {
-    stored(r, stack_store(ram, address, state::register_of(r, t)))
+    stored(
+        r,
+        stack_store(window, ram, address, state::register_of(r, t)),
+    )
 }
 
 // ---- the literal pool
@@ -90,57 +101,117 @@ fn literal_load(page: &[u8], place: u16, imm8: u8) -> Loaded
 
 // ---- by the base
 
-fn store_base(r: Record, ram: &mut [u8], size: Size, t: u8, imm12: u16) -> Did
-    ensures { λ d. ⌜ Does (now (ram .entry)) (storeBase r (now (ram .entry)) size t imm12) d (now (ram .exit)) ⌝ }
+fn store_base(r: Record, window: Window, ram: &mut [u8], size: Size, t: u8, imm12: u16) -> Did
+    ensures { λ d. ⌜ Does (now (ram .entry)) (storeBase r window (now (ram .entry)) size t imm12) d (now (ram .exit)) ⌝ }
 {
     let base = r.base;
     stored(
         r,
-        memory::store_by(base, ram, imm12, size, state::register_of(r, t)),
+        memory::store_by(base, window, ram, imm12, size, state::register_of(r, t)),
     )
 }
 
 // What the base has: r9 needs a RAM base.
-fn loaded_by(r: Record, ram: &[u8], external: &[u8], size: Size, n: u8, imm12: u16) -> Loaded
-    ensures { λ l. ⌜ l ≡ loadedBase r (now (ram .entry)) (now (external .entry)) size n imm12 ⌝ }
+fn loaded_by(
+    r: Record,
+    window: Window,
+    ram: &[u8],
+    external: &[u8],
+    size: Size,
+    n: u8,
+    imm12: u16,
+) -> Loaded
+    ensures { λ l. ⌜ l ≡ loadedBase r window (now (ram .entry)) (now (external .entry)) size n imm12 ⌝ }
 {
     let base = r.base;
-    memory::load_by(base, n == 9, ram, external, imm12, size)
+    memory::load_by(base, n == 9, window, ram, external, imm12, size)
 }
 
-fn load_base(r: Record, ram: &[u8], external: &[u8], size: Size, n: u8, t: u8, imm12: u16) -> Did
-    ensures { λ d. ⌜ d ≡ didOf (loadBase r (now (ram .entry)) (now (external .entry)) size n t imm12) ⌝ }
+fn load_base(
+    r: Record,
+    window: Window,
+    ram: &[u8],
+    external: &[u8],
+    size: Size,
+    n: u8,
+    t: u8,
+    imm12: u16,
+) -> Did
+    ensures { λ d. ⌜ d ≡ didOf (loadBase r window (now (ram .entry)) (now (external .entry)) size n t imm12) ⌝ }
 {
-    load_to(r, t, loaded_by(r, ram, external, size, n, imm12))
+    load_to(r, t, loaded_by(r, window, ram, external, size, n, imm12))
 }
 
-fn load_signed(r: Record, ram: &[u8], external: &[u8], size: Size, n: u8, t: u8, imm12: u16) -> Did
-    ensures { λ d. ⌜ d ≡ didOf (loadSigned r (now (ram .entry)) (now (external .entry)) size n t imm12) ⌝ }
+fn load_signed(
+    r: Record,
+    window: Window,
+    ram: &[u8],
+    external: &[u8],
+    size: Size,
+    n: u8,
+    t: u8,
+    imm12: u16,
+) -> Did
+    ensures { λ d. ⌜ d ≡ didOf (loadSigned r window (now (ram .entry)) (now (external .entry)) size n t imm12) ⌝ }
 {
     load_to(
         r,
         t,
-        memory::signed(size, loaded_by(r, ram, external, size, n, imm12)),
+        memory::signed(size, loaded_by(r, window, ram, external, size, n, imm12)),
     )
 }
 
 // ---- the instructions, in the order of the listed encodings; operands as in `isa::Access`
 
-pub fn perform(page: &[u8], external: &[u8], access: Access, r: Record, ram: &mut [u8]) -> Did
-    ensures { λ d. ⌜ Does (now (ram .entry)) (accessed (now (page .entry)) (now (external .entry)) access r (now (ram .entry))) d (now (ram .exit)) ⌝ }
+pub fn perform(
+    page: &[u8],
+    external: &[u8],
+    window: Window,
+    access: Access,
+    r: Record,
+    ram: &mut [u8],
+) -> Did
+    ensures { λ d. ⌜ Does (now (ram .entry)) (accessed (now (page .entry)) (now (external .entry)) window access r (now (ram .entry))) d (now (ram .exit)) ⌝ }
 {
     let sp = r.sp as usize;
     match access {
         Access::LdrLit(t, imm8) => load_to(r, t, literal_load(page, r.place, imm8)),
-        Access::StrSp(t, imm8) => store_at(r, ram, t, sp + 4 * (imm8 as usize)),
-        Access::LdrSp(t, imm8) => load_at(r, ram, t, sp + 4 * (imm8 as usize)),
-        Access::Str(t, imm12) => store_base(r, ram, Size::Word, t, imm12),
-        Access::Strb(t, imm12) => store_base(r, ram, Size::Byte, t, imm12),
-        Access::Strh(t, imm12) => store_base(r, ram, Size::Halfword, t, imm12),
-        Access::Ldr(n, t, imm12) => load_base(r, ram, external, Size::Word, n, t, imm12),
-        Access::Ldrb(n, t, imm12) => load_base(r, ram, external, Size::Byte, n, t, imm12),
-        Access::Ldrh(n, t, imm12) => load_base(r, ram, external, Size::Halfword, n, t, imm12),
-        Access::Ldrsb(n, t, imm12) => load_signed(r, ram, external, Size::Byte, n, t, imm12),
-        Access::Ldrsh(n, t, imm12) => load_signed(r, ram, external, Size::Halfword, n, t, imm12),
+        Access::StrSp(t, imm8) => store_at(r, window, ram, t, sp + 4 * (imm8 as usize)),
+        Access::LdrSp(t, imm8) => load_at(r, window, ram, t, sp + 4 * (imm8 as usize)),
+        Access::Str(t, imm12) => store_base(r, window, ram, Size::Word, t, imm12),
+        Access::Strb(t, imm12) => store_base(r, window, ram, Size::Byte, t, imm12),
+        Access::Strh(t, imm12) => store_base(r, window, ram, Size::Halfword, t, imm12),
+        Access::Ldr(n, t, imm12) => load_base(r, window, ram, external, Size::Word, n, t, imm12),
+        Access::Ldrb(n, t, imm12) => load_base(r, window, ram, external, Size::Byte, n, t, imm12),
+        Access::Ldrh(n, t, imm12) => load_base(
+            r,
+            window,
+            ram,
+            external,
+            Size::Halfword,
+            n,
+            t,
+            imm12,
+        ),
+        Access::Ldrsb(n, t, imm12) => load_signed(
+            r,
+            window,
+            ram,
+            external,
+            Size::Byte,
+            n,
+            t,
+            imm12,
+        ),
+        Access::Ldrsh(n, t, imm12) => load_signed(
+            r,
+            window,
+            ram,
+            external,
+            Size::Halfword,
+            n,
+            t,
+            imm12,
+        ),
     }
 }

@@ -1,6 +1,7 @@
 // What a step and a run refuse.
 ghost use mathlib.Core.List.{[], _∷_};
 ghost use mathlib.Core.Path.{_≡_};
+ghost use lib.ListN.{length};
 ghost use Rattle.platform.specs.Programs.{programOf, settingOf};
 ghost use Rattle.refusal.specs.Refusals.{decision, decisionOf};
 ghost use Rattle.admission.specs.RunRefusals.{areaRules, placeRule, recordRules, runDecision};
@@ -8,10 +9,17 @@ use platform::Platform;
 use refusal::Refusal;
 use refusal::Verdict;
 use state::Record;
+use window::Window;
 
-// The profile is known, and what is lent has its lengths.
-pub fn of_areas(page: &[u8], platform: Platform, ram: &[u8], external: &[u8]) -> Verdict
-    ensures { λ v. ⌜ decisionOf v ≡ decision (areaRules (settingOf (programOf (now (page .entry)) platform) (now (external .entry))) (now (ram .entry))) ⌝ }
+// The profile is known, what is lent has its lengths, and the window lies in RAM.
+pub fn of_areas(
+    page: &[u8],
+    platform: Platform,
+    ram: &[u8],
+    external: &[u8],
+    window: Window,
+) -> Verdict
+    ensures { λ v. ⌜ decisionOf v ≡ decision (areaRules (settingOf (programOf (now (page .entry)) platform) (now (external .entry)) window) (now (ram .entry))) ⌝ }
 {
     if let Verdict::Refused(why) = platform::of_program(page, platform) {
         return Verdict::Refused(why);
@@ -22,7 +30,7 @@ pub fn of_areas(page: &[u8], platform: Platform, ram: &[u8], external: &[u8]) ->
     if !state::external_fits(external) {
         return Verdict::Refused(Refusal::ExternalLength);
     }
-    Verdict::Accepted
+    window::of_window(window)
 }
 
 fn of_place(page: &[u8], platform: Platform, place: u16) -> Verdict
@@ -36,7 +44,7 @@ fn of_place(page: &[u8], platform: Platform, place: u16) -> Verdict
 
 // The record is fit, and so is its place.
 fn of_record(page: &[u8], platform: Platform, external: &[u8], r: Record) -> Verdict
-    ensures { λ v. ⌜ decisionOf v ≡ decision (recordRules (settingOf (programOf (now (page .entry)) platform) (now (external .entry))) r) ⌝ }
+    ensures { λ v. ⌜ decisionOf v ≡ decision (recordRules (programOf (now (page .entry)) platform) (length (now (external .entry))) r) ⌝ }
 {
     let fit = state::fitness(r, external.len());
     let placed = of_place(page, platform, r.place);
@@ -48,11 +56,12 @@ pub fn verdict_of(
     platform: Platform,
     ram: &[u8],
     external: &[u8],
+    window: Window,
     r: Record,
 ) -> Verdict
-    ensures { λ v. ⌜ decisionOf v ≡ runDecision (settingOf (programOf (now (page .entry)) platform) (now (external .entry))) r (now (ram .entry)) ⌝ }
+    ensures { λ v. ⌜ decisionOf v ≡ runDecision (settingOf (programOf (now (page .entry)) platform) (now (external .entry)) window) r (now (ram .entry)) ⌝ }
 {
-    let areas = of_areas(page, platform, ram, external);
+    let areas = of_areas(page, platform, ram, external, window);
     match areas {
         Verdict::Refused(why) => Verdict::Refused(why),
         Verdict::Accepted => of_record(page, platform, external, r),

@@ -5,6 +5,7 @@ use mathlib.Core.List.{List}
 use lib.Dec.{ltb}
 use Rattle.service.specs.declared.Service.{Service}
 use Rattle.service.specs.declared.Service.the-variants.{Return, Call, TailCall, Syscall, TailSyscall, LongBranch, Preload, SetBase, StoreAtSp, LoadAtSp, LowerSp, DirectSyscall, Validate, Breakpoint, CallRegister, TailCallRegister, Bad}
+use Rattle.window.specs.declared.Window.{Window}
 use Rattle.memory.specs.declared.Fault.the-variants.{LowStack}
 use Rattle.state.specs.Record.{register}
 use Rattle.writing.specs.Writes.{writesNothing, writingSp, writingBase}
@@ -30,24 +31,24 @@ abbrev pub setBase : Record → List ℕ → ℕ → ℕ → Outcome
 setBase r ram v external = does (writingBase (writesNothing r) (validated v external)) ram
 
 -- every service except setting the base leaves the base none; an exit does nothing else here
-unfoldable pub serviceDoes : ℕ → Service → Record → List ℕ → Outcome
-serviceDoes external Return r ram = leavesNone (does (writesNothing r) ram)
-serviceDoes external (Call a n) r ram = leavesNone (does (writesNothing r) ram)
-serviceDoes external (TailCall a n) r ram = leavesNone (does (writesNothing r) ram)
-serviceDoes external (Syscall n i) r ram = leavesNone (does (writesNothing r) ram)
-serviceDoes external (TailSyscall n i) r ram = leavesNone (does (writesNothing r) ram)
-serviceDoes external (LongBranch a) r ram = leavesNone (does (writesNothing r) ram)
-serviceDoes external Preload r ram = leavesNone (does (writesNothing r) ram)
-serviceDoes external (SetBase a) r ram = setBase r ram a external
-serviceDoes external (StoreAtSp t a) r ram = leavesNone (storeAt r ram t (r .sp + a))
-serviceDoes external (LoadAtSp t a) r ram = leavesNone (loadAt r ram t (r .sp + a))
-serviceDoes external (LowerSp words) r ram = leavesNone (lowerSp r ram words)
-serviceDoes external (DirectSyscall n) r ram = leavesNone (does (writesNothing r) ram)
-serviceDoes external (Validate n) r ram = setBase r ram (register r n) external
-serviceDoes external Breakpoint r ram = leavesNone (does (writesNothing r) ram)
-serviceDoes external (CallRegister n) r ram = leavesNone (does (writesNothing r) ram)
-serviceDoes external (TailCallRegister n) r ram = leavesNone (does (writesNothing r) ram)
-serviceDoes external Bad r ram = leavesNone (does (writesNothing r) ram)
+unfoldable pub serviceDoes : ℕ → Window → Service → Record → List ℕ → Outcome
+serviceDoes external window Return r ram = leavesNone (does (writesNothing r) ram)
+serviceDoes external window (Call a n) r ram = leavesNone (does (writesNothing r) ram)
+serviceDoes external window (TailCall a n) r ram = leavesNone (does (writesNothing r) ram)
+serviceDoes external window (Syscall n i) r ram = leavesNone (does (writesNothing r) ram)
+serviceDoes external window (TailSyscall n i) r ram = leavesNone (does (writesNothing r) ram)
+serviceDoes external window (LongBranch a) r ram = leavesNone (does (writesNothing r) ram)
+serviceDoes external window Preload r ram = leavesNone (does (writesNothing r) ram)
+serviceDoes external window (SetBase a) r ram = setBase r ram a external
+serviceDoes external window (StoreAtSp t a) r ram = leavesNone (storeAt r window ram t (r .sp + a))
+serviceDoes external window (LoadAtSp t a) r ram = leavesNone (loadAt r window ram t (r .sp + a))
+serviceDoes external window (LowerSp words) r ram = leavesNone (lowerSp r ram words)
+serviceDoes external window (DirectSyscall n) r ram = leavesNone (does (writesNothing r) ram)
+serviceDoes external window (Validate n) r ram = setBase r ram (register r n) external
+serviceDoes external window Breakpoint r ram = leavesNone (does (writesNothing r) ram)
+serviceDoes external window (CallRegister n) r ram = leavesNone (does (writesNothing r) ram)
+serviceDoes external window (TailCallRegister n) r ram = leavesNone (does (writesNothing r) ram)
+serviceDoes external window Bad r ram = leavesNone (does (writesNothing r) ram)
 
 -- ---- what the code gives back where the base is none afterwards
 

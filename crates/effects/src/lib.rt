@@ -9,6 +9,7 @@ use memory::Fault;
 use service::Service;
 use state::Base;
 use state::Record;
+use window::Window;
 
 // The base is none, unless a fault was met.
 fn leave_none(d: Did) -> Did
@@ -48,8 +49,8 @@ fn set_base_to(r: Record, v: u32, external: &[u8]) -> Did
     ))
 }
 
-pub fn serve(external: &[u8], s: Service, r: Record, ram: &mut [u8]) -> Did
-    ensures { λ d. ⌜ Does (now (ram .entry)) (serviceDoes (length (now (external .entry))) s r (now (ram .entry))) d (now (ram .exit)) ⌝ }
+pub fn serve(external: &[u8], window: Window, s: Service, r: Record, ram: &mut [u8]) -> Did
+    ensures { λ d. ⌜ Does (now (ram .entry)) (serviceDoes (length (now (external .entry))) window s r (now (ram .entry))) d (now (ram .exit)) ⌝ }
 {
     let sp = r.sp as usize;
     match s {
@@ -61,8 +62,14 @@ pub fn serve(external: &[u8], s: Service, r: Record, ram: &mut [u8]) -> Did
         Service::LongBranch(_) => base_rule(r),
         Service::Preload => base_rule(r),
         Service::SetBase(a) => set_base_to(r, a, external),
-        Service::StoreAtSp(t, a) => leave_none(access::store_at(r, ram, t, sp + a as usize)),
-        Service::LoadAtSp(t, a) => leave_none(access::load_at(r, ram, t, sp + a as usize)),
+        Service::StoreAtSp(t, a) => leave_none(access::store_at(
+            r,
+            window,
+            ram,
+            t,
+            sp + a as usize,
+        )),
+        Service::LoadAtSp(t, a) => leave_none(access::load_at(r, window, ram, t, sp + a as usize)),
         Service::LowerSp(words) => leave_none(lower_sp(r, words)),
         Service::DirectSyscall(_) => base_rule(r),
         Service::Validate(n) => set_base_to(r, state::register_of(r, n), external),

@@ -16,7 +16,10 @@ use Rattle.isa.specs.declared.Access.{Access}
 use Rattle.isa.specs.declared.Access.the-variants.{LdrLit, StrSp, LdrSp, Str, Strb, Strh, Ldr, Ldrb, Ldrh, Ldrsb, Ldrsh}
 use Rattle.service.specs.declared.Service.{Service}
 use Rattle.service.specs.declared.Service.the-variants.{Return, Call, TailCall, Syscall, TailSyscall, LongBranch, Preload, SetBase, StoreAtSp, LoadAtSp, LowerSp, DirectSyscall, Validate, Breakpoint, CallRegister, TailCallRegister, Bad}
-use Rattle.memory.specs.Memory.{insideRam, ramAfter, storedBy, afterStoreBy, signedLoaded}
+use Rattle.window.specs.Windows.{insideWindow}
+use Rattle.window.specs.declared.Window.{Window}
+use Rattle.memory.specs.Memory.{insideRam, storedBy, afterStoreBy, signedLoaded}
+use Rattle.memory.proofs.Ram.{base-keeps}
 use Rattle.memory.specs.declared.Fault.the-variants.{LowStack}
 use Rattle.memory.specs.declared.Loaded.{Loaded}
 use Rattle.memory.specs.declared.Loaded.the-variants.{Value}
@@ -34,6 +37,7 @@ use Rattle.state.specs.declared.Record.{Record}
 use Rattle.writing.specs.declared.Writes.{Writes}
 use Rattle.access.specs.Outcomes.{Outcome, does, fails, loadTo, storeWith}
 use Rattle.access.specs.LoadsAndStores.{stackLoaded, stackStored, afterStackStore, storeAt, literalLoaded, storeBase, loadedBase, accessed}
+use Rattle.access.proofs.Theorems.{stack-keeps}
 use Rattle.effects.specs.ServiceEffects.{leavesNone, lowerSp, setBase, serviceDoes}
 
 -- ---- what is written
@@ -71,30 +75,6 @@ lower-fits w words external l f =
     let parts = both (spFits (w .sp)) (baseFits (w .base) external) f in
     rw (less-fits (w .sp) words l (parts .0)) (parts .1)
 
--- ---- RAM keeps its length
-
-ram-length : (ram : List ℕ) (at : ℕ) (size : Size) (x : ℕ) → length (ramAfter ram at size x) ≡ length ram
-unfolding ramAfter
-ram-length ram at size x = go (insideRam at size)
-  where
-    go : (t : Bool) → length (cond t (storeLE (widthOf size) ram at x) ram) ≡ length ram
-    go true = length-store (widthOf size) ram at x
-    go false = refl
-
-stack-length : (ram : List ℕ) (address x : ℕ) → length (afterStackStore ram address x) ≡ length ram
-unfolding afterStackStore
-stack-length ram address x = go (ltb address 0x10000)
-  where
-    go : (t : Bool) → length (cond t ram (ramAfter ram (address - 0x10000) Word x)) ≡ length ram
-    go true = refl
-    go false = ram-length ram (address - 0x10000) Word x
-
-base-length : (b : Base) (ram : List ℕ) (imm12 : ℕ) (size : Size) (x : ℕ) → length (afterStoreBy b ram imm12 size x) ≡ length ram
-unfolding afterStoreBy
-base-length Nothing ram imm12 size x = refl
-base-length (Ram offset) ram imm12 size x = ram-length ram (offset + imm12) size x
-base-length (External offset) ram imm12 size x = refl
-
 -- ---- outcomes
 
 -- what is done leaves a fit record, since nothing else of it is tested, and RAM of its size
@@ -107,39 +87,45 @@ unfolding leavesNone
 none-after external (does w ram) h = (base-fits w Nothing external refl (h .0), h .1)
 none-after external (fails fault) h = tt
 
-module _ (external : ℕ) (r : Record) (ram : List ℕ) (f : FitWrites external (writesNothing r)) (e : length ram ≡ 32768) where
+module _ (external : ℕ) (r : Record) (window : Window) (ram : List ℕ) (f : FitWrites external (writesNothing r)) (e : length ram ≡ 32768) where
   load-leaves : (t : ℕ) (l : Loaded) → Leaves external (loadTo r ram t l)
   unfolding loadTo
   load-leaves t (Value x) = (f, e)
   load-leaves t (loaded.Fails fault) = tt
 
-  store-leaves : (s : Stored) (after : List ℕ) → length after ≡ length ram → Leaves external (storeWith r s after)
+  store-leaves : (s : Stored) (after : List ℕ) → length after ≡ 32768 → Leaves external (storeWith r s after)
   unfolding storeWith
-  store-leaves Done after l = (f, l ∙ e)
+  store-leaves Done after l = (f, l)
   store-leaves (stored.Fails fault) after l = tt
 
-  stack-store : (t address : ℕ) → Leaves external (storeAt r ram t address)
+  -- RAM keeps its length
+  same-length : (x at : ℕ) (size : Size) → insideRam at (widthOf size) ≡ true → insideWindow window at (widthOf size) ≡ true
+      → length (storeLE (widthOf size) ram at x) ≡ 32768
+  same-length x at size i j = length-store (widthOf size) ram at x ∙ e
+
+  stack-store : (t address : ℕ) → Leaves external (storeAt r window ram t address)
   stack-store t address =
-      store-leaves (stackStored address) (afterStackStore ram address (register r t)) (stack-length ram address (register r t))
+      store-leaves (stackStored window address) (afterStackStore window ram address (register r t))
+      (stack-keeps (λ after. length after ≡ 32768) window ram (register r t) e (same-length (register r t)) address)
 
-  base-store : (size : Size) (t imm12 : ℕ) → Leaves external (storeBase r ram size t imm12)
+  base-store : (size : Size) (t imm12 : ℕ) → Leaves external (storeBase r window ram size t imm12)
   base-store size t imm12 =
-      store-leaves (storedBy (r .base) imm12 size) (afterStoreBy (r .base) ram imm12 size (register r t))
-      (base-length (r .base) ram imm12 size (register r t))
+      store-leaves (storedBy (r .base) window imm12 size) (afterStoreBy (r .base) window ram imm12 size (register r t))
+      (base-keeps (λ after. length after ≡ 32768) window ram (register r t) e (same-length (register r t)) (r .base) imm12 size)
 
-  pub accessed-leaves : (page bytes : List ℕ) (access : Access) → Leaves external (accessed page bytes access r ram)
+  pub accessed-leaves : (page bytes : List ℕ) (access : Access) → Leaves external (accessed page bytes window access r ram)
   unfolding accessed
   accessed-leaves page bytes (LdrLit t imm8) = load-leaves t (literalLoaded page (r .place) imm8)
   accessed-leaves page bytes (StrSp t imm8) = stack-store t (r .sp + 4 * imm8)
-  accessed-leaves page bytes (LdrSp t imm8) = load-leaves t (stackLoaded ram (r .sp + 4 * imm8))
+  accessed-leaves page bytes (LdrSp t imm8) = load-leaves t (stackLoaded window ram (r .sp + 4 * imm8))
   accessed-leaves page bytes (Str t imm12) = base-store Word t imm12
   accessed-leaves page bytes (Strb t imm12) = base-store Byte t imm12
   accessed-leaves page bytes (Strh t imm12) = base-store Halfword t imm12
-  accessed-leaves page bytes (Ldr n t imm12) = load-leaves t (loadedBase r ram bytes Word n imm12)
-  accessed-leaves page bytes (Ldrb n t imm12) = load-leaves t (loadedBase r ram bytes Byte n imm12)
-  accessed-leaves page bytes (Ldrh n t imm12) = load-leaves t (loadedBase r ram bytes Halfword n imm12)
-  accessed-leaves page bytes (Ldrsb n t imm12) = load-leaves t (signedLoaded Byte (loadedBase r ram bytes Byte n imm12))
-  accessed-leaves page bytes (Ldrsh n t imm12) = load-leaves t (signedLoaded Halfword (loadedBase r ram bytes Halfword n imm12))
+  accessed-leaves page bytes (Ldr n t imm12) = load-leaves t (loadedBase r window ram bytes Word n imm12)
+  accessed-leaves page bytes (Ldrb n t imm12) = load-leaves t (loadedBase r window ram bytes Byte n imm12)
+  accessed-leaves page bytes (Ldrh n t imm12) = load-leaves t (loadedBase r window ram bytes Halfword n imm12)
+  accessed-leaves page bytes (Ldrsb n t imm12) = load-leaves t (signedLoaded Byte (loadedBase r window ram bytes Byte n imm12))
+  accessed-leaves page bytes (Ldrsh n t imm12) = load-leaves t (signedLoaded Halfword (loadedBase r window ram bytes Halfword n imm12))
 
   -- ---- services
 
@@ -158,7 +144,7 @@ module _ (external : ℕ) (r : Record) (ram : List ℕ) (f : FitWrites external 
       go true l = tt
       go false l = (lower-fits (writesNothing r) words external (ltb-false (r .sp) (0x10000 + 4 * words) l) f, e)
 
-  pub service-leaves : (s : Service) → Leaves external (serviceDoes external s r ram)
+  pub service-leaves : (s : Service) → Leaves external (serviceDoes external window s r ram)
   unfolding serviceDoes
   service-leaves Return = none-leaves
   service-leaves (Call a n) = none-leaves
@@ -169,7 +155,7 @@ module _ (external : ℕ) (r : Record) (ram : List ℕ) (f : FitWrites external 
   service-leaves Preload = none-leaves
   service-leaves (SetBase a) = base-leaves a
   service-leaves (StoreAtSp t a) = none-after external _ (stack-store t (r .sp + a))
-  service-leaves (LoadAtSp t a) = none-after external _ (load-leaves t (stackLoaded ram (r .sp + a)))
+  service-leaves (LoadAtSp t a) = none-after external _ (load-leaves t (stackLoaded window ram (r .sp + a)))
   service-leaves (LowerSp words) = none-after external _ (lower-leaves words)
   service-leaves (DirectSyscall n) = none-leaves
   service-leaves (Validate n) = base-leaves (register r n)

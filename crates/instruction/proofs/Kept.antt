@@ -1,5 +1,5 @@
 -- From a fit record, place and RAM an instruction goes on or exits with fit ones, an exit being by a service that stands there, or
--- it meets one of the six faults; and a fit place starts a listed instruction.
+-- it meets one of the seven faults; and a fit place starts a listed instruction.
 use Prim.Native.Nat.{ℕ, _*_}
 use native.Mathlib.Omega.{arith}
 use mathlib.Core.Bool.{Bool, true, false, not}
@@ -26,7 +26,7 @@ use Rattle.service.specs.declared.Ending.the-variants as ending
 use Rattle.bundle.specs.Flow.{endsFlow, jumpTo, serviceJump, flowBy, flowOf}
 use Rattle.memory.specs.Faults.{faultNumber}
 use Rattle.memory.specs.declared.Fault.{Fault}
-use Rattle.memory.specs.declared.Fault.the-variants.{NoBase, PastRam, OffExternalPage, PastStack, LowStack, PastPage}
+use Rattle.memory.specs.declared.Fault.the-variants.{NoBase, PastRam, OffExternalPage, PastStack, LowStack, PastPage, OutsideWindow}
 use Rattle.state.specs.FitRecord.{fitRecord}
 use Rattle.state.specs.Record.{register, withPlace}
 use Rattle.writing.specs.Writes.{writesNothing, applied}
@@ -50,6 +50,7 @@ known OffExternalPage = omega arith
 known PastStack = omega arith
 known LowStack = omega arith
 known PastPage = omega arith
+known OutsideWindow = omega arith
 
 -- ---- each way to go on or to exit
 
@@ -123,15 +124,15 @@ module _ (setting : Setting) (r : Record) (ram : List ℕ) (f : Fit setting r ra
       end-kept goesOn (λ _ _ k. k) (following page (r .place)) (does (writesOf operation r) ram)
       (fit-writes, f .ramFits) h
   each-kept (Memory access) s h =
-      end-kept goesOn (λ _ _ k. k) (following page (r .place)) (accessed page (setting .external) access r ram)
-      (accessed-leaves (length (setting .external)) r ram fit-writes (f .ramFits) page (setting .external) access) h
+      end-kept goesOn (λ _ _ k. k) (following page (r .place)) (accessed page (setting .external) (setting .window) access r ram)
+      (accessed-leaves (length (setting .external)) r (setting .window) ram fit-writes (f .ramFits) page (setting .external) access) h
   each-kept (Cbz imm6 n) s h = if-kept (eqb (register r n) 0) (targetOf (r .place) (pos imm6)) h
   each-kept (Cbnz imm6 n) s h = if-kept (not (eqb (register r n) 0)) (targetOf (r .place) (pos imm6)) h
   each-kept (Bcc condition imm8) s h = if-kept (conditionHolds condition (r .flags)) (targetOf (r .place) (SInt 8 imm8)) h
   each-kept (B imm11) s h = branch-kept (targetOf (r .place) (SInt 11 (bits imm11 10 0))) h
   each-kept (instruction.Service n) s h =
-      service-kept n s (endingIn program n) refl h (serviceDoes (length (setting .external)) (serviceOf page n) r ram)
-      (service-leaves (length (setting .external)) r ram fit-writes (f .ramFits) (serviceOf page n))
+      service-kept n s (endingIn program n) refl h (serviceDoes (length (setting .external)) (setting .window) (serviceOf page n) r ram)
+      (service-leaves (length (setting .external)) r (setting .window) ram fit-writes (f .ramFits) (serviceOf page n))
   each-kept Unlisted s h = absurd h
 
 pub keeps : (setting : Setting) → decision (programRules (setting .program)) ≡ accepted → (r : Record) (ram : List ℕ)

@@ -11,18 +11,19 @@ use Rattle.isa.specs.declared.Access.the-variants.{LdrLit, StrSp, LdrSp, Str, S
 use Rattle.isa.specs.declared.Instruction.{Instruction}
 use Rattle.isa.specs.declared.Instruction.the-variants.{Data, Memory, Cbz, Cbnz, Bcc, B, Service, Unlisted}
 use Rattle.service.specs.Services.{serviceOf, literalService}
+use Rattle.window.specs.declared.Window.{Window}
 use Rattle.state.specs.declared.Record.{Record}
 use Rattle.access.specs.LoadsAndStores.{literalLoaded, accessed}
 use Rattle.place.specs.Places.{instructionAt, following}
 use Rattle.instruction.specs.Instructions.{exitOf, served, effectOf, instructionOf}
 use Rattle.instruction.specs.AtPlace.{AccessNames, Names, Agree}
 
-module _ (program : Program) (other external : List ℕ) (r : Record) (ram : List ℕ) (same : bundlesIn (program .page) ≡ bundlesIn other) where
+module _ (program : Program) (other external : List ℕ) (window : Window) (r : Record) (ram : List ℕ) (same : bundlesIn (program .page) ≡ bundlesIn other) where
   abbrev page : List ℕ
   page = program .page
 
   access-same : (a : Access) → ((k : ℕ) → AccessNames (r .place) a k → wordAt page k ≡ wordAt other k)
-      → accessed page external a r ram ≡ accessed other external a r ram
+      → accessed page external window a r ram ≡ accessed other external window a r ram
   unfolding accessed literalLoaded
   access-same (LdrLit t imm8) w = rw (same, w (r .place / 2 + 1 + imm8) refl)
   access-same (StrSp t imm8) w = refl
@@ -46,7 +47,7 @@ module _ (program : Program) (other external : List ℕ) (r : Record) (ram : Lis
 
   effect-same : following page (r .place) ≡ following other (r .place)
       → (i : Instruction) → ((k : ℕ) → Names (r .place) i k → wordAt page k ≡ wordAt other k)
-      → effectOf (settingOf program external) r ram i ≡ effectOf (settingOf (withPage program other) external) r ram i
+      → effectOf (settingOf program external window) r ram i ≡ effectOf (settingOf (withPage program other) external window) r ram i
   unfolding effectOf served
   effect-same f (Data operation) w = rw f
   effect-same f (Memory a) w = rw (f, access-same a w)
@@ -57,12 +58,12 @@ module _ (program : Program) (other external : List ℕ) (r : Record) (ram : Lis
   effect-same f (Service n) w = rw (f, service-same n (w n refl), exit-same n (w n refl))
   effect-same f Unlisted w = refl
 
-pub reads-at-place : (program : Program) (other external : List ℕ) (r : Record) (ram : List ℕ) → Agree program other (r .place)
-    → instructionOf (settingOf program external) r ram ≡ instructionOf (settingOf (withPage program other) external) r ram
+pub reads-at-place : (program : Program) (other external : List ℕ) (window : Window) (r : Record) (ram : List ℕ) → Agree program other (r .place)
+    → instructionOf (settingOf program external window) r ram ≡ instructionOf (settingOf (withPage program other) external window) r ram
 unfolding instructionOf instructionAt following
-reads-at-place program other external r ram a =
-    effect-same program other external r ram (a .bundles) behind (instructionAt program (r .place)) (a .literal)
-    ∙ ap (effectOf (settingOf (withPage program other) external) r ram) stands
+reads-at-place program other external window r ram a =
+    effect-same program other external window r ram (a .bundles) behind (instructionAt program (r .place)) (a .literal)
+    ∙ ap (effectOf (settingOf (withPage program other) external window) r ram) stands
   where
     behind : following (program .page) (r .place) ≡ following other (r .place)
     behind = rw (a .first)

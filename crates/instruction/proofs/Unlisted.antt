@@ -110,7 +110,7 @@ unlisted-each setting r ram (Service n) =
     let page = setting .program .page in
     let s = serviceOf page n in
     let bad = bad-served (endingIn (setting .program) n) (exitOf page n) r (following page (r .place))
-    (serviceDoes (length (setting .external)) s r ram) in
+    (serviceDoes (length (setting .external)) (setting .window) s r ram) in
     let on = bad-on (setting .program .neverReturn) s in
     (λ e. on .0 (bad .0 e), λ h. bad .1 (on .1 h))
 unlisted-each setting r ram Unlisted = (λ e. tt, λ h. refl)

@@ -25,7 +25,10 @@ use Rattle.service.specs.declared.Ending.{Ending}
 use Rattle.service.specs.declared.Ending.the-variants as ending
 use Rattle.service.specs.declared.Service.{Service}
 use Rattle.service.specs.declared.Service.the-variants.{Return, Call, TailCall, Syscall, TailSyscall, LongBranch, Preload, SetBase, StoreAtSp, LoadAtSp, LowerSp, DirectSyscall, Validate, Breakpoint, CallRegister, TailCallRegister, Bad}
-use Rattle.memory.specs.Memory.{insideRam, ramLoaded, ramAfter, externalPage, externalLoaded, loadedBy, storedBy, afterStoreBy, signedLoaded}
+use Rattle.window.specs.Windows.{insideWindow}
+use Rattle.window.specs.declared.Window.{Window}
+use Rattle.memory.specs.Memory.{insideRam, ramAccess, loadedIf, ramLoaded, externalPage, externalLoaded, loadedBy, storedBy, signedLoaded}
+use Rattle.memory.proofs.Ram.{base-keeps}
 use Rattle.memory.specs.declared.Fault.{Fault}
 use Rattle.memory.specs.declared.Fault.the-variants.{OffExternalPage, PastRam, PastStack, LowStack, PastPage}
 use Rattle.memory.specs.declared.Loaded.{Loaded}
@@ -43,6 +46,7 @@ use Rattle.writing.specs.declared.Write.{Write}
 use Rattle.writing.specs.declared.Write.the-variants.{NoRegister, Register}
 use Rattle.access.specs.Outcomes.{Outcome, does, fails, loadTo, storeWith}
 use Rattle.access.specs.LoadsAndStores.{stackLoaded, stackStored, afterStackStore, storeAt, literalLoaded, storeBase, loadedBase, accessed}
+use Rattle.access.proofs.Theorems.{stack-keeps}
 use Rattle.effects.specs.ServiceEffects.{leavesNone, lowerSp, serviceDoes}
 use Rattle.stop.specs.Stops.{Exit}
 use Rattle.plain.specs.PlainMachine.{Effect, goesOn, exits}
@@ -68,17 +72,22 @@ load-if : (t : Bool) (x : ℕ) (fault : Fault) → x < 2 ^ 32 → LoadedWord (co
 load-if true x fault h = h
 load-if false x fault h = tt
 
-ram-word : (ram : List ℕ) (at : ℕ) (size : Size) (fault : Fault) → Below 256 ram → LoadedWord (ramLoaded ram at size fault)
-unfolding ramLoaded
-ram-word ram at size fault h = load-if (insideRam at size) (loadLE (widthOf size) ram at) fault (loaded-word size ram at h)
+access-word : (s : Stored) (x : ℕ) → x < 2 ^ 32 → LoadedWord (loadedIf s x)
+access-word Done x h = h
+access-word (stored.Fails fault) x h = tt
 
-stack-word : (ram : List ℕ) (address : ℕ) → Below 256 ram → LoadedWord (stackLoaded ram address)
+ram-word : (window : Window) (ram : List ℕ) (at : ℕ) (size : Size) (past : Fault) → Below 256 ram → LoadedWord (ramLoaded window ram at size past)
+unfolding ramLoaded
+ram-word window ram at size past h =
+    access-word (ramAccess window at (widthOf size) past) (loadLE (widthOf size) ram at) (loaded-word size ram at h)
+
+stack-word : (window : Window) (ram : List ℕ) (address : ℕ) → Below 256 ram → LoadedWord (stackLoaded window ram address)
 unfolding stackLoaded
-stack-word ram address h = go (ltb address 0x10000)
+stack-word window ram address h = go (ltb address 0x10000)
   where
-    go : (t : Bool) → LoadedWord (cond t (loaded.Fails LowStack) (ramLoaded ram (address - 0x10000) Word PastStack))
+    go : (t : Bool) → LoadedWord (cond t (loaded.Fails LowStack) (ramLoaded window ram (address - 0x10000) Word PastStack))
     go true = tt
-    go false = ram-word ram (address - 0x10000) Word PastStack h
+    go false = ram-word window ram (address - 0x10000) Word PastStack h
 
 external-word : (external : List ℕ) (offset imm12 : ℕ) (size : Size) → Below 256 external
     → LoadedWord (externalLoaded external offset imm12 size)
@@ -88,13 +97,13 @@ external-word external offset imm12 size h =
     (loaded-word size _ (offset % 256 + imm12)
     (below-take 256 256 (drop (offset / 256 * 256) external) (λ k. rw getD-drop (h (offset / 256 * 256 + k))) (omega arith)))
 
-base-word : (b : Base) (needsRam : Bool) (ram external : List ℕ) (imm12 : ℕ) (size : Size) → Below 256 ram → Below 256 external
-    → LoadedWord (loadedBy b needsRam ram external imm12 size)
+base-word : (b : Base) (needsRam : Bool) (window : Window) (ram external : List ℕ) (imm12 : ℕ) (size : Size) → Below 256 ram → Below 256 external
+    → LoadedWord (loadedBy b needsRam window ram external imm12 size)
 unfolding loadedBy
-base-word Nothing needsRam ram external imm12 size h e = tt
-base-word (Ram offset) needsRam ram external imm12 size h e = ram-word ram (offset + imm12) size PastRam h
-base-word (External offset) true ram external imm12 size h e = tt
-base-word (External offset) false ram external imm12 size h e = external-word external offset imm12 size e
+base-word Nothing needsRam window ram external imm12 size h e = tt
+base-word (Ram offset) needsRam window ram external imm12 size h e = ram-word window ram (offset + imm12) size PastRam h
+base-word (External offset) true window ram external imm12 size h e = tt
+base-word (External offset) false window ram external imm12 size h e = external-word external offset imm12 size e
 
 signed-word : (size : Size) (l : Loaded) → LoadedWord (signedLoaded size l)
 signed-word size (Value x) = extended-word (8 * widthOf size) (x % 2 ^ (8 * widthOf size))
@@ -109,30 +118,6 @@ unfolding literalLoaded
 literal-word page place imm8 h =
     load-if (ltb (place / 2 + 1 + imm8) (bundlesIn page)) (wordAt page (place / 2 + 1 + imm8)) PastPage
     (page-word page (place / 2 + 1 + imm8) h)
-
--- ---- stores
-
-ram-bytes : (ram : List ℕ) (at : ℕ) (size : Size) (x : ℕ) → Below 256 ram → Below 256 (ramAfter ram at size x)
-unfolding ramAfter
-ram-bytes ram at size x h = go (insideRam at size)
-  where
-    go : (t : Bool) → Below 256 (cond t (storeLE (widthOf size) ram at x) ram)
-    go true = below-store (widthOf size) ram at x h
-    go false = h
-
-stack-bytes : (ram : List ℕ) (address x : ℕ) → Below 256 ram → Below 256 (afterStackStore ram address x)
-unfolding afterStackStore
-stack-bytes ram address x h = go (ltb address 0x10000)
-  where
-    go : (t : Bool) → Below 256 (cond t ram (ramAfter ram (address - 0x10000) Word x))
-    go true = h
-    go false = ram-bytes ram (address - 0x10000) Word x h
-
-base-bytes : (b : Base) (ram : List ℕ) (imm12 : ℕ) (size : Size) (x : ℕ) → Below 256 ram → Below 256 (afterStoreBy b ram imm12 size x)
-unfolding afterStoreBy
-base-bytes Nothing ram imm12 size x h = h
-base-bytes (Ram offset) ram imm12 size x h = ram-bytes ram (offset + imm12) size x h
-base-bytes (External offset) ram imm12 size x h = h
 
 -- ---- outcomes
 
@@ -152,6 +137,9 @@ module _ (setting : Setting) (p : Below 256 (setting .program .page)) (e : Below
   abbrev external : List ℕ
   external = setting .external
 
+  abbrev window : Window
+  window = setting .window
+
   load-words : (t : ℕ) (l : Loaded) → LoadedWord l → OutWords (loadTo r ram t l)
   unfolding loadTo
   load-words t (Value x) l = (l, h .bytes)
@@ -162,23 +150,32 @@ module _ (setting : Setting) (p : Below 256 (setting .program .page)) (e : Below
   store-words Done after l = (tt, l)
   store-words (stored.Fails fault) after l = tt
 
-  stack-store : (t address : ℕ) → OutWords (storeAt r ram t address)
-  stack-store t address = store-words (stackStored address) _ (stack-bytes ram address (register r t) (h .bytes))
+  -- RAM keeps its bytes
+  still-bytes : (x at : ℕ) (size : Size) → insideRam at (widthOf size) ≡ true → insideWindow window at (widthOf size) ≡ true
+      → Below 256 (storeLE (widthOf size) ram at x)
+  still-bytes x at size i j = below-store (widthOf size) ram at x (h .bytes)
 
-  base-store : (size : Size) (t imm12 : ℕ) → OutWords (storeBase r ram size t imm12)
-  base-store size t imm12 = store-words (storedBy (r .base) imm12 size) _ (base-bytes (r .base) ram imm12 size (register r t) (h .bytes))
+  stack-store : (t address : ℕ) → OutWords (storeAt r window ram t address)
+  stack-store t address =
+      store-words (stackStored window address) _
+      (stack-keeps (Below 256) window ram (register r t) (h .bytes) (still-bytes (register r t)) address)
 
-  base-load : (size : Size) (n t imm12 : ℕ) → OutWords (loadTo r ram t (loadedBase r ram external size n imm12))
-  base-load size n t imm12 = load-words t _ (base-word (r .base) (eqb n 9) ram external imm12 size (h .bytes) e)
+  base-store : (size : Size) (t imm12 : ℕ) → OutWords (storeBase r window ram size t imm12)
+  base-store size t imm12 =
+      store-words (storedBy (r .base) window imm12 size) _
+      (base-keeps (Below 256) window ram (register r t) (h .bytes) (still-bytes (register r t)) (r .base) imm12 size)
 
-  signed-load : (size : Size) (n t imm12 : ℕ) → OutWords (loadTo r ram t (signedLoaded size (loadedBase r ram external size n imm12)))
-  signed-load size n t imm12 = load-words t _ (signed-word size (loadedBase r ram external size n imm12))
+  base-load : (size : Size) (n t imm12 : ℕ) → OutWords (loadTo r ram t (loadedBase r window ram external size n imm12))
+  base-load size n t imm12 = load-words t _ (base-word (r .base) (eqb n 9) window ram external imm12 size (h .bytes) e)
 
-  accessed-words : (access : Access) → OutWords (accessed page external access r ram)
+  signed-load : (size : Size) (n t imm12 : ℕ) → OutWords (loadTo r ram t (signedLoaded size (loadedBase r window ram external size n imm12)))
+  signed-load size n t imm12 = load-words t _ (signed-word size (loadedBase r window ram external size n imm12))
+
+  accessed-words : (access : Access) → OutWords (accessed page external window access r ram)
   unfolding accessed
   accessed-words (LdrLit t imm8) = load-words t _ (literal-word page (r .place) imm8 p)
   accessed-words (StrSp t imm8) = stack-store t (r .sp + 4 * imm8)
-  accessed-words (LdrSp t imm8) = load-words t _ (stack-word ram (r .sp + 4 * imm8) (h .bytes))
+  accessed-words (LdrSp t imm8) = load-words t _ (stack-word window ram (r .sp + 4 * imm8) (h .bytes))
   accessed-words (Str t imm12) = base-store Word t imm12
   accessed-words (Strb t imm12) = base-store Byte t imm12
   accessed-words (Strh t imm12) = base-store Halfword t imm12
@@ -200,7 +197,7 @@ module _ (setting : Setting) (p : Below 256 (setting .program .page)) (e : Below
       go true = tt
       go false = (tt, h .bytes)
 
-  service-words : (s : Service) → OutWords (serviceDoes (length external) s r ram)
+  service-words : (s : Service) → OutWords (serviceDoes (length external) window s r ram)
   unfolding serviceDoes
   service-words Return = still
   service-words (Call a n) = still
@@ -211,7 +208,7 @@ module _ (setting : Setting) (p : Below 256 (setting .program .page)) (e : Below
   service-words Preload = still
   service-words (SetBase a) = (tt, h .bytes)
   service-words (StoreAtSp t a) = none-after _ (stack-store t (r .sp + a))
-  service-words (LoadAtSp t a) = none-after _ (load-words t _ (stack-word ram (r .sp + a) (h .bytes)))
+  service-words (LoadAtSp t a) = none-after _ (load-words t _ (stack-word window ram (r .sp + a) (h .bytes)))
   service-words (LowerSp words) = none-after _ (lower-words words)
   service-words (DirectSyscall n) = still
   service-words (Validate n) = (tt, h .bytes)

@@ -41,6 +41,6 @@ pub record ServiceAt (program : Program) (r : Record) (exit : Exit) : Type 0 whe
   pub reports : exit ≡ exitOf (program .page) low
   pub column : isExit (endingIn program low) ≡ true
 
--- the build paper's faults
+-- the papers' faults: the build paper's six, and the window's
 abbrev pub Known : ℕ → Type 0
-Known n = (1 ≤ n) × (n ≤ 6)
+Known n = (1 ≤ n) × (n ≤ 7)

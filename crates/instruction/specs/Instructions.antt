@@ -80,7 +80,7 @@ unfoldable pub served : Setting → Record → List ℕ → ℕ → Effect
 served setting r ram n =
     let page = setting .program .page in
     servedBy (endingIn (setting .program) n) (exitOf page n) r (following page (r .place))
-    (serviceDoes (length (setting .external)) (serviceOf page n) r ram)
+    (serviceDoes (length (setting .external)) (setting .window) (serviceOf page n) r ram)
 
 -- ---- every instruction
 
@@ -94,7 +94,7 @@ effectOf setting r ram (Data operation) =
     endAt goesOn r (following (setting .program .page) (r .place)) (does (writesOf operation r) ram)
 effectOf setting r ram (Memory access) =
     let page = setting .program .page in
-    endAt goesOn r (following page (r .place)) (accessed page (setting .external) access r ram)
+    endAt goesOn r (following page (r .place)) (accessed page (setting .external) (setting .window) access r ram)
 effectOf setting r ram (Cbz imm6 n) = cbz (setting .program .page) imm6 n r ram
 effectOf setting r ram (Cbnz imm6 n) = cbnz (setting .program .page) imm6 n r ram
 effectOf setting r ram (Bcc condition imm8) = bcc (setting .program .page) condition imm8 r ram

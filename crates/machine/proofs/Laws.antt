@@ -28,6 +28,7 @@ use Rattle.branch.specs.declared.Target.the-variants as target
 use Rattle.platform.specs.Programs.{Program, Setting, programOf, settingOf, encodingsIn}
 use Rattle.platform.proofs.Theorems.{program-accepted}
 use Rattle.platform.specs.declared.Platform.{Platform}
+use Rattle.window.specs.declared.Window.{Window}
 use Rattle.service.specs.Services.{serviceOf, endingOn}
 use Rattle.service.specs.declared.Ending.{Ending}
 use Rattle.service.specs.declared.Service.{Service}
@@ -95,12 +96,12 @@ pub branching : (r : Record) (ram : List ℕ) (taken held : Bool) (next : ℕ) (
 branching r ram taken held next t to x p s h = rw (← p, ← s) h
 
 -- a service, by its meaning and its ending
-pub serving : (page : List ℕ) (platform : Platform) (external : List ℕ) (r : Record) (ram : List ℕ) (n : ℕ) (s : Service) (e : Ending)
+pub serving : (page : List ℕ) (platform : Platform) (external : List ℕ) (window : Window) (r : Record) (ram : List ℕ) (n : ℕ) (s : Service) (e : Ending)
     → s ≡ serviceOf page n → e ≡ endingOn (platform .«never_return») s
-    → served (settingOf (programOf page platform) external) r ram n
-    ≡ servedBy e (exitOf page n) r (following page (r .place)) (serviceDoes (length external) s r ram)
+    → served (settingOf (programOf page platform) external window) r ram n
+    ≡ servedBy e (exitOf page n) r (following page (r .place)) (serviceDoes (length external) window s r ram)
 unfolding served
-serving page platform external r ram n s e p q = rw (q, p)
+serving page platform external window r ram n s e p q = rw (q, p)
 
 pub behind-near : (page : List ℕ) (place : ℕ) → following page place ≤ place + 2
 unfolding following

@@ -25,6 +25,7 @@ use refusal::Verdict;
 use service::Ending;
 use state::Record;
 use stop::Stop;
+use window::Window;
 use writing::Write;
 use writing::Writes;
 
@@ -183,26 +184,32 @@ fn serve(
     page: &[u8],
     platform: Platform,
     external: &[u8],
+    window: Window,
     n: u8,
     r: Record,
     ram: &mut [u8],
     behind: u16,
 ) -> Executed
     requires { ⌜ behind ≡ following (now page) (r .place) ⌝ }
-    ensures { λ x. ⌜ Executes r (now (ram .entry)) (served (settingOf (programOf (now (page .entry)) platform) (now (external .entry))) r (now (ram .entry)) n) x (now (ram .exit)) ⌝ }
+    ensures { λ x. ⌜ Executes r (now (ram .entry)) (served (settingOf (programOf (now (page .entry)) platform) (now (external .entry)) window) r (now (ram .entry)) n) x (now (ram .exit)) ⌝ }
 {
     let s = service::service_of(page, n);
     match service::ending_on(platform, s) {
-        Ending::GoesOn => ended(r, effects::serve(external, s, r, ram), End::GoesOn, behind),
+        Ending::GoesOn => ended(
+            r,
+            effects::serve(external, window, s, r, ram),
+            End::GoesOn,
+            behind,
+        ),
         Ending::Exit => ended(
             r,
-            effects::serve(external, s, r, ram),
+            effects::serve(external, window, s, r, ram),
             exit_end(page, n),
             behind,
         ),
         Ending::LastExit => ended(
             r,
-            effects::serve(external, s, r, ram),
+            effects::serve(external, window, s, r, ram),
             exit_end(page, n),
             r.place,
         ),
@@ -217,19 +224,20 @@ fn perform(
     page: &[u8],
     platform: Platform,
     external: &[u8],
+    window: Window,
     i: Instruction,
     r: Record,
     ram: &mut [u8],
 ) -> Executed
     requires { ⌜ (r .place < 128) × NotData i ⌝ }
-    ensures { λ x. ⌜ Executes r (now (ram .entry)) (effectOf (settingOf (programOf (now (page .entry)) platform) (now (external .entry))) r (now (ram .entry)) i) x (now (ram .exit)) ⌝ }
+    ensures { λ x. ⌜ Executes r (now (ram .entry)) (effectOf (settingOf (programOf (now (page .entry)) platform) (now (external .entry)) window) r (now (ram .entry)) i) x (now (ram .exit)) ⌝ }
 {
     let next = next_place(page, r.place);
     match i {
         Instruction::Data(_) => unlisted(r),
         Instruction::Memory(access) => ended(
             r,
-            access::perform(page, external, access, r, ram),
+            access::perform(page, external, window, access, r, ram),
             End::GoesOn,
             next,
         ),
@@ -237,7 +245,7 @@ fn perform(
         Instruction::Cbnz(imm6, n) => cbnz(imm6, n, r, next),
         Instruction::Bcc(condition, imm8) => bcc(condition, imm8, r, next),
         Instruction::B(imm11) => b(imm11, r),
-        Instruction::Service(n) => serve(page, platform, external, n, r, ram, next),
+        Instruction::Service(n) => serve(page, platform, external, window, n, r, ram, next),
         Instruction::Unlisted => unlisted(r),
     }
 }
@@ -247,15 +255,16 @@ fn execute(
     page: &[u8],
     platform: Platform,
     external: &[u8],
+    window: Window,
     i: Instruction,
     r: Record,
     ram: &mut [u8],
 ) -> Executed
     requires { ⌜ (length (now page) ≤ 256) × (i ≡ instructionAt (programOf (now page) platform) (r .place)) × NotData i ⌝ }
-    ensures { λ x. ⌜ Executes r (now (ram .entry)) (instructionOf (settingOf (programOf (now (page .entry)) platform) (now (external .entry))) r (now (ram .entry))) x (now (ram .exit)) ⌝ }
+    ensures { λ x. ⌜ Executes r (now (ram .entry)) (instructionOf (settingOf (programOf (now (page .entry)) platform) (now (external .entry)) window) r (now (ram .entry))) x (now (ram .exit)) ⌝ }
 {
     if ((r.place / 2) as usize) < page.len() / 4 {
-        perform(page, platform, external, i, r, ram)
+        perform(page, platform, external, window, i, r, ram)
     } else {
         unlisted(r)
     }
@@ -274,12 +283,13 @@ fn run_on(
     page: &[u8],
     platform: Platform,
     external: &[u8],
+    window: Window,
     start: Record,
     ram: &mut [u8],
     budget: u32,
 ) -> Answer
     requires { ⌜ length (now page) ≤ 256 ⌝ }
-    ensures { λ a. ⌜ seen a (now (ram .exit)) ≡ plain (instructionOf (settingOf (programOf (now (page .entry)) platform) (now (external .entry)))) budget 0 start (now (ram .entry)) ⌝ }
+    ensures { λ a. ⌜ seen a (now (ram .exit)) ≡ plain (instructionOf (settingOf (programOf (now (page .entry)) platform) (now (external .entry)) window)) budget 0 start (now (ram .entry)) ⌝ }
 {
     let mut r = start;
     let mut steps: u32 = 0;
@@ -298,7 +308,7 @@ fn run_on(
             r.place = next;
             steps += 1;
         } else {
-            let x = execute(page, platform, external, i, r, ram);
+            let x = execute(page, platform, external, window, i, r, ram);
             let end = x.end;
             let writes = x.writes;
             r = writing::applied(r, writes, x.place);
@@ -320,25 +330,33 @@ pub fn run(
     platform: Platform,
     ram: &mut [u8],
     external: &[u8],
+    window: Window,
     r: Record,
     budget: u32,
 ) -> Answer
-    ensures { λ a. ⌜ Gives (settingOf (programOf (now (page .entry)) platform) (now (external .entry))) budget r (now (ram .entry)) a (now (ram .exit)) ⌝ }
+    ensures { λ a. ⌜ Gives (settingOf (programOf (now (page .entry)) platform) (now (external .entry)) window) budget r (now (ram .entry)) a (now (ram .exit)) ⌝ }
 {
-    let verdict = admission::verdict_of(page, platform, &ram[..], external, r);
+    let verdict = admission::verdict_of(page, platform, &ram[..], external, window, r);
     match verdict {
         Verdict::Refused(why) => Answer {
             stop: Stop::Refused(why),
             steps: 0,
             after: r,
         },
-        Verdict::Accepted => run_on(page, platform, external, r, ram, budget),
+        Verdict::Accepted => run_on(page, platform, external, window, r, ram, budget),
     }
 }
 
 // The build paper's step: a run with budget 1.
-pub fn step(page: &[u8], platform: Platform, ram: &mut [u8], external: &[u8], r: Record) -> Answer
-    ensures { λ a. ⌜ Gives (settingOf (programOf (now (page .entry)) platform) (now (external .entry))) 1 r (now (ram .entry)) a (now (ram .exit)) ⌝ }
+pub fn step(
+    page: &[u8],
+    platform: Platform,
+    ram: &mut [u8],
+    external: &[u8],
+    window: Window,
+    r: Record,
+) -> Answer
+    ensures { λ a. ⌜ Gives (settingOf (programOf (now (page .entry)) platform) (now (external .entry)) window) 1 r (now (ram .entry)) a (now (ram .exit)) ⌝ }
 {
-    run(page, platform, ram, external, r, 1)
+    run(page, platform, ram, external, window, r, 1)
 }

@@ -1,8 +1,9 @@
 // The calls that a host links, in C's way: one that can be refused answers 0 or a refusal's number, and the rest is given in lent
 // numbers and bytes. A record crosses as its 44 bytes, fit or not. Bit n of `never_return` says that direct syscall n never returns;
-// `profile` is 0, full, or 1, small; any other is refused.
+// `profile` is 0, full, or 1, small; any other is refused. A window of RAM is its start and its end.
 ghost use mathlib.Core.Path.{_≡_};
 ghost use lib.ListN.{length};
+ghost use Rattle.window.specs.Windows.{windowOf};
 ghost use Rattle.platform.specs.Platforms.{platformOf};
 ghost use Rattle.platform.specs.Programs.{programOf, settingOf};
 ghost use Rattle.refusal.specs.Refusals.{decisionOf};
@@ -21,6 +22,7 @@ use crossing::StopNumbers;
 use platform::Platform;
 use refusal::Refusal;
 use refusal::Verdict;
+use window::Window;
 
 // ---- pages and bases
 
@@ -199,6 +201,8 @@ pub extern "C" fn mb_raw_run(
     profile: u32,
     ram: &mut [u8],
     external: &[u8],
+    window_start: u32,
+    window_end: u32,
     bytes: &mut [u8],
     budget: u32,
     kind: &mut u32,
@@ -208,21 +212,25 @@ pub extern "C" fn mb_raw_run(
     steps: &mut u32,
 ) -> u32
     ensures { λ code. ⌜ answered code (now (kind .exit)) (now (value .exit)) (now (literal .exit)) (now (position .exit)) (now (steps .exit)) (now (bytes .exit)) (now (ram .exit))
-        ≡ hostRun (settingOf (programOf (now (page .entry)) (platformOf «never_return» profile)) (now (external .entry))) budget (now (bytes .entry)) (now (ram .entry)) ⌝ }
+        ≡ hostRun (settingOf (programOf (now (page .entry)) (platformOf «never_return» profile)) (now (external .entry)) (windowOf «window_start» «window_end»)) budget (now (bytes .entry)) (now (ram .entry)) ⌝ }
 {
     let platform = Platform {
         never_return,
         profile,
     };
+    let window = Window {
+        start: window_start,
+        end: window_end,
+    };
     let held = layout::holds_record(&bytes[..]);
     if let Verdict::Refused(_) = held {
-        let areas = admission::of_areas(page, platform, &ram[..], external);
+        let areas = admission::of_areas(page, platform, &ram[..], external, window);
         let numbers = crossing::refused_with(refusal::first_of(areas, held));
         *steps = 0;
         return tell(numbers, kind, value, literal, position);
     }
     let before = layout::record_in(&bytes[..]);
-    let answer = machine::run(page, platform, ram, external, before, budget);
+    let answer = machine::run(page, platform, ram, external, window, before, budget);
     let stop = answer.stop;
     let after = answer.after;
     layout::write(after, bytes);
@@ -238,6 +246,8 @@ pub extern "C" fn mb_raw_step(
     profile: u32,
     ram: &mut [u8],
     external: &[u8],
+    window_start: u32,
+    window_end: u32,
     bytes: &mut [u8],
     kind: &mut u32,
     value: &mut u32,
@@ -246,7 +256,7 @@ pub extern "C" fn mb_raw_step(
     steps: &mut u32,
 ) -> u32
     ensures { λ code. ⌜ answered code (now (kind .exit)) (now (value .exit)) (now (literal .exit)) (now (position .exit)) (now (steps .exit)) (now (bytes .exit)) (now (ram .exit))
-        ≡ hostRun (settingOf (programOf (now (page .entry)) (platformOf «never_return» profile)) (now (external .entry))) 1 (now (bytes .entry)) (now (ram .entry)) ⌝ }
+        ≡ hostRun (settingOf (programOf (now (page .entry)) (platformOf «never_return» profile)) (now (external .entry)) (windowOf «window_start» «window_end»)) 1 (now (bytes .entry)) (now (ram .entry)) ⌝ }
 {
     mb_raw_run(
         page,
@@ -254,6 +264,8 @@ pub extern "C" fn mb_raw_step(
         profile,
         ram,
         external,
+        window_start,
+        window_end,
         bytes,
         1,
         kind,
@@ -290,7 +302,7 @@ pub extern "C" fn mb_raw_exit(
 
 const MAJOR: u32 = 0;
 
-const MINOR: u32 = 6;
+const MINOR: u32 = 7;
 
 const PATCH: u32 = 0;
 

@@ -1,16 +1,18 @@
 -- Memory: loads and stores by a base, and their edges.
 use Prim.Native.Nat.{ℕ, _+_, _*_, _/_, _%_, _^_}
-use mathlib.Core.Bool.{Bool, cond}
+use mathlib.Core.Bool.{Bool, _&&_, cond}
 use mathlib.Core.List.{List}
 use lib.Dec.{leb}
 use lib.ListN.{take, drop}
 use Rattle.words.specs.Bitwise.{signExtended}
 use Rattle.endian.specs.LittleEndian.{widthOf, loadLE, storeLE}
 use Rattle.endian.specs.declared.Size.{Size}
+use Rattle.window.specs.Windows.{insideWindow}
+use Rattle.window.specs.declared.Window.{Window}
 use Rattle.state.specs.declared.Base.{Base}
 use Rattle.state.specs.declared.Base.the-variants.{Nothing, Ram, External}
 use Rattle.memory.specs.declared.Fault.{Fault}
-use Rattle.memory.specs.declared.Fault.the-variants.{NoBase, PastRam, OffExternalPage}
+use Rattle.memory.specs.declared.Fault.the-variants.{NoBase, PastRam, OffExternalPage, OutsideWindow}
 use Rattle.memory.specs.declared.Loaded.{Loaded}
 use Rattle.memory.specs.declared.Loaded.the-variants.{Value}
 use Rattle.memory.specs.declared.Loaded.the-variants as loaded
@@ -18,20 +20,31 @@ use Rattle.memory.specs.declared.Stored.{Stored}
 use Rattle.memory.specs.declared.Stored.the-variants.{Done}
 use Rattle.memory.specs.declared.Stored.the-variants as stored
 
--- ---- RAM, for base and stack alike: one way to read and one to write. Past its end is the given fault, and changes nothing
+-- ---- RAM, for base and stack alike: one way to read and one to write. A fault changes nothing
 
 -- the build paper's user RAM, of 32,768 bytes: offset + size at most that
-abbrev pub insideRam : ℕ → Size → Bool
-insideRam at size = leb (at + widthOf size) 32768
+abbrev pub insideRam : ℕ → ℕ → Bool
+insideRam at bytes = leb (at + bytes) 32768
 
-unfoldable pub ramLoaded : List ℕ → ℕ → Size → Fault → Loaded
-ramLoaded ram at size fault = cond (insideRam at size) (Value (loadLE (widthOf size) ram at)) (loaded.Fails fault)
+-- an access of some bytes: past RAM it meets the given fault; then, where it isn't wholly inside the window, fault 7
+unfoldable pub ramAccess : Window → ℕ → ℕ → Fault → Stored
+ramAccess window at bytes past =
+    cond (insideRam at bytes) (cond (insideWindow window at bytes) Done (stored.Fails OutsideWindow)) (stored.Fails past)
 
-unfoldable pub ramStored : ℕ → Size → Fault → Stored
-ramStored at size fault = cond (insideRam at size) Done (stored.Fails fault)
+-- the number that a load finds, where it may
+abbrev pub loadedIf : Stored → ℕ → Loaded
+loadedIf Done x = Value x
+loadedIf (stored.Fails fault) x = loaded.Fails fault
 
-unfoldable pub ramAfter : List ℕ → ℕ → Size → ℕ → List ℕ
-ramAfter ram at size x = cond (insideRam at size) (storeLE (widthOf size) ram at x) ram
+unfoldable pub ramLoaded : Window → List ℕ → ℕ → Size → Fault → Loaded
+ramLoaded window ram at size past = loadedIf (ramAccess window at (widthOf size) past) (loadLE (widthOf size) ram at)
+
+abbrev pub ramStored : Window → ℕ → Size → Fault → Stored
+ramStored window at size past = ramAccess window at (widthOf size) past
+
+unfoldable pub ramAfter : Window → List ℕ → ℕ → Size → ℕ → List ℕ
+ramAfter window ram at size x =
+    cond (insideRam at (widthOf size) && insideWindow window at (widthOf size)) (storeLE (widthOf size) ram at x) ram
 
 -- ---- external data
 
@@ -48,21 +61,21 @@ externalLoaded external offset imm12 size =
 
 -- ---- by a base: imm12 is added without wrapping; loads by r9 and all stores need a RAM base
 
-unfoldable pub loadedBy : Base → Bool → List ℕ → List ℕ → ℕ → Size → Loaded
-loadedBy Nothing needsRam ram external imm12 size = loaded.Fails NoBase
-loadedBy (Ram offset) needsRam ram external imm12 size = ramLoaded ram (offset + imm12) size PastRam
-loadedBy (External offset) needsRam ram external imm12 size =
+unfoldable pub loadedBy : Base → Bool → Window → List ℕ → List ℕ → ℕ → Size → Loaded
+loadedBy Nothing needsRam window ram external imm12 size = loaded.Fails NoBase
+loadedBy (Ram offset) needsRam window ram external imm12 size = ramLoaded window ram (offset + imm12) size PastRam
+loadedBy (External offset) needsRam window ram external imm12 size =
     cond needsRam (loaded.Fails NoBase) (externalLoaded external offset imm12 size)
 
-unfoldable pub storedBy : Base → ℕ → Size → Stored
-storedBy Nothing imm12 size = stored.Fails NoBase
-storedBy (Ram offset) imm12 size = ramStored (offset + imm12) size PastRam
-storedBy (External offset) imm12 size = stored.Fails NoBase
+unfoldable pub storedBy : Base → Window → ℕ → Size → Stored
+storedBy Nothing window imm12 size = stored.Fails NoBase
+storedBy (Ram offset) window imm12 size = ramStored window (offset + imm12) size PastRam
+storedBy (External offset) window imm12 size = stored.Fails NoBase
 
-unfoldable pub afterStoreBy : Base → List ℕ → ℕ → Size → ℕ → List ℕ
-afterStoreBy Nothing ram imm12 size x = ram
-afterStoreBy (Ram offset) ram imm12 size x = ramAfter ram (offset + imm12) size x
-afterStoreBy (External offset) ram imm12 size x = ram
+unfoldable pub afterStoreBy : Base → Window → List ℕ → ℕ → Size → ℕ → List ℕ
+afterStoreBy Nothing window ram imm12 size x = ram
+afterStoreBy (Ram offset) window ram imm12 size x = ramAfter window ram (offset + imm12) size x
+afterStoreBy (External offset) window ram imm12 size x = ram
 
 -- ---- signed loads: the bytes that were loaded, their sign extended to 32 bits
 

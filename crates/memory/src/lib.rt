@@ -4,11 +4,12 @@ ghost use Prim.Native.Nat.{min, _*_, _%_, _^_};
 ghost use Rattle.words.specs.Bitwise.{signExtended};
 ghost use Rattle.endian.specs.LittleEndian.{widthOf};
 ghost use Rattle.memory.specs.Faults.{faultNumber};
-ghost use Rattle.memory.specs.Memory.{ramLoaded, ramStored, ramAfter, externalLoaded, loadedBy, storedBy, afterStoreBy, signedLoaded};
+ghost use Rattle.memory.specs.Memory.{ramAccess, ramLoaded, ramStored, ramAfter, externalLoaded, loadedBy, storedBy, afterStoreBy, signedLoaded};
 use endian::Size;
 use state::Base;
+use window::Window;
 
-// The build paper's faults, in the order of their numbers, 1 to 6.
+// The papers' faults, in the order of their numbers, 1 to 7.
 pub enum Fault {
     NoBase,
     PastRam,
@@ -16,6 +17,7 @@ pub enum Fault {
     PastStack,
     LowStack,
     PastPage,
+    OutsideWindow,
 }
 
 pub enum Loaded {
@@ -28,7 +30,7 @@ pub enum Stored {
     Fails(Fault),
 }
 
-// The build paper's number of a fault.
+// The papers' number of a fault.
 pub fn fault_number(f: Fault) -> u8
     ensures { λ n. ⌜ n ≡ faultNumber f ⌝ }
 {
@@ -39,30 +41,52 @@ pub fn fault_number(f: Fault) -> u8
         Fault::PastStack => 4,
         Fault::LowStack => 5,
         Fault::PastPage => 6,
+        Fault::OutsideWindow => 7,
     }
 }
 
-// The only way to read RAM.
-pub fn ram_load(ram: &[u8], at: usize, size: Size, fault: Fault) -> Loaded
-    ensures { λ r. ⌜ r ≡ ramLoaded (now (ram .entry)) at size fault ⌝ }
+// Whether an access of some bytes to RAM may be done, tested whole: past RAM first, then the window.
+pub fn ram_access(window: Window, at: usize, bytes: usize, past: Fault) -> Stored
+    ensures { λ r. ⌜ r ≡ ramAccess window at bytes past ⌝ }
 {
-    if at <= 32768 - endian::width(size) {
-        Loaded::Value(endian::load(ram, at as u32, size))
-    } else {
-        Loaded::Fails(fault)
+    if !window::holds(window::whole_ram(), at, bytes) {
+        return Stored::Fails(past);
+    }
+    if !window::holds(window, at, bytes) {
+        return Stored::Fails(Fault::OutsideWindow);
+    }
+    Stored::Done
+}
+
+// The only way to read RAM.
+pub fn ram_load(window: Window, ram: &[u8], at: usize, size: Size, past: Fault) -> Loaded
+    ensures { λ r. ⌜ r ≡ ramLoaded window (now (ram .entry)) at size past ⌝ }
+{
+    let access = ram_access(window, at, endian::width(size), past);
+    match access {
+        Stored::Done => Loaded::Value(endian::load(ram, at as u32, size)),
+        Stored::Fails(fault) => Loaded::Fails(fault),
     }
 }
 
 // The only way to write RAM.
-pub fn ram_store(ram: &mut [u8], at: usize, size: Size, x: u32, fault: Fault) -> Stored
-    ensures { λ r. ⌜ (r ≡ ramStored at size fault) × (now (ram .exit) ≡ ramAfter (now (ram .entry)) at size x) ⌝ }
+pub fn ram_store(
+    window: Window,
+    ram: &mut [u8],
+    at: usize,
+    size: Size,
+    x: u32,
+    past: Fault,
+) -> Stored
+    ensures { λ r. ⌜ (r ≡ ramStored window at size past) × (now (ram .exit) ≡ ramAfter window (now (ram .entry)) at size x) ⌝ }
 {
-    let last = 32768 - endian::width(size);
-    if at <= last {
-        endian::store(ram, at as u32, size, x);
-        Stored::Done
-    } else {
-        Stored::Fails(fault)
+    let access = ram_access(window, at, endian::width(size), past);
+    match access {
+        Stored::Done => {
+            endian::store(ram, at as u32, size, x);
+            Stored::Done
+        }
+        Stored::Fails(fault) => Stored::Fails(fault),
     }
 }
 
@@ -91,16 +115,23 @@ pub fn external_load(external: &[u8], offset: u32, imm12: u16, size: Size) -> Lo
 pub fn load_by(
     base: Base,
     needs_ram: bool,
+    window: Window,
     ram: &[u8],
     external: &[u8],
     imm12: u16,
     size: Size,
 ) -> Loaded
-    ensures { λ r. ⌜ r ≡ loadedBy base «needs_ram» (now (ram .entry)) (now (external .entry)) imm12 size ⌝ }
+    ensures { λ r. ⌜ r ≡ loadedBy base «needs_ram» window (now (ram .entry)) (now (external .entry)) imm12 size ⌝ }
 {
     match base {
         Base::Nothing => Loaded::Fails(Fault::NoBase),
-        Base::Ram(offset) => ram_load(ram, offset as usize + imm12 as usize, size, Fault::PastRam),
+        Base::Ram(offset) => ram_load(
+            window,
+            ram,
+            offset as usize + imm12 as usize,
+            size,
+            Fault::PastRam,
+        ),
         Base::External(offset) => {
             if needs_ram {
                 Loaded::Fails(Fault::NoBase)
@@ -112,12 +143,20 @@ pub fn load_by(
 }
 
 // A store by a base.
-pub fn store_by(base: Base, ram: &mut [u8], imm12: u16, size: Size, x: u32) -> Stored
-    ensures { λ r. ⌜ (r ≡ storedBy base imm12 size) × (now (ram .exit) ≡ afterStoreBy base (now (ram .entry)) imm12 size x) ⌝ }
+pub fn store_by(
+    base: Base,
+    window: Window,
+    ram: &mut [u8],
+    imm12: u16,
+    size: Size,
+    x: u32,
+) -> Stored
+    ensures { λ r. ⌜ (r ≡ storedBy base window imm12 size) × (now (ram .exit) ≡ afterStoreBy base window (now (ram .entry)) imm12 size x) ⌝ }
 {
     match base {
         Base::Nothing => Stored::Fails(Fault::NoBase),
         Base::Ram(offset) => ram_store(
+            window,
             ram,
             offset as usize + imm12 as usize,
             size,

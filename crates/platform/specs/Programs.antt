@@ -7,6 +7,7 @@ use Rattle.page.specs.Page.{pageRule}
 use Rattle.isa.specs.Profiles.{Encodings, Profile, profileOf, isKnown, encodingsOf, decode16By, decode32By}
 use Rattle.isa.specs.declared.Instruction.{Instruction}
 use Rattle.platform.specs.Platforms.{defaultPlatform}
+use Rattle.window.specs.declared.Window.{Window}
 use Rattle.platform.specs.declared.Platform.{Platform}
 
 -- a page, the set of direct syscalls that never return, and a profile: not its number but what it lists, so that whatever is said of
@@ -47,10 +48,11 @@ profileRule profile = rule (not (isKnown profile)) 18 []
 abbrev pub programRules : Program → List Rule
 programRules program = profileRule (program .profile) ∷ pageRule (program .page) ∷ []
 
--- a program and the external data
+-- a program, the external data and the window of RAM
 pub record Setting : Type 0 where
   pub program : Program
   pub external : List ℕ
+  pub window : Window
 
-abbrev pub settingOf : Program → List ℕ → Setting
-settingOf program external = record { program = program; external = external }
+abbrev pub settingOf : Program → List ℕ → Window → Setting
+settingOf program external window = record { program = program; external = external; window = window }

@@ -3,7 +3,7 @@ use Prim.Native.Nat.{ℕ}
 use mathlib.Core.Bool.{Bool, true, false, cond}
 use mathlib.Core.List.{List, [], _∷_}
 use Rattle.refusal.specs.declared.Refusal.{Refusal}
-use Rattle.refusal.specs.declared.Refusal.the-variants.{PageLength, RamLength, ExternalLength, UnfitPlace, FormLength, FormRange, NoSuchBundle, NotGrouped, RoomTooSmall, UnknownProfile, SpBounds, SpAlignment, RamOffset, ExternalOffset, NoRecord}
+use Rattle.refusal.specs.declared.Refusal.the-variants.{PageLength, RamLength, ExternalLength, UnfitPlace, FormLength, FormRange, NoSuchBundle, NotGrouped, RoomTooSmall, UnknownProfile, WindowBounds, SpBounds, SpAlignment, RamOffset, ExternalOffset, NoRecord}
 use Rattle.refusal.specs.declared.Carried.{Carried}
 use Rattle.refusal.specs.declared.Carried.the-variants.{Nothing, Position}
 use Rattle.refusal.specs.declared.Verdict.{Verdict}
@@ -46,6 +46,7 @@ refusalNumber NoSuchBundle = 8
 refusalNumber NotGrouped = 9
 refusalNumber RoomTooSmall = 10
 refusalNumber UnknownProfile = 18
+refusalNumber WindowBounds = 20
 refusalNumber SpBounds = 41
 refusalNumber SpAlignment = 42
 refusalNumber RamOffset = 43
@@ -63,6 +64,7 @@ refusalValues NoSuchBundle = []
 refusalValues NotGrouped = []
 refusalValues RoomTooSmall = []
 refusalValues UnknownProfile = []
+refusalValues WindowBounds = []
 refusalValues SpBounds = []
 refusalValues SpAlignment = []
 refusalValues RamOffset = []

@@ -13,6 +13,7 @@ use platform::Platform;
 use state::Base;
 use state::Record;
 use streams::Input;
+use window::Window;
 
 const PROGRAM: [u8; 5] = *b"steps";
 
@@ -106,10 +107,11 @@ fn run_bytes(
     platform: Platform,
     ram: &mut [u8],
     external: &[u8],
+    window: Window,
     r: Record,
     budget: u32,
 ) -> Record {
-    show_answer(machine::run(page, platform, ram, external, r, budget))
+    show_answer(machine::run(page, platform, ram, external, window, r, budget))
 }
 
 // By a line's page. Record and budget need not be the line's, so that a later call can go on.
@@ -118,24 +120,40 @@ fn run_with(
     platform: Platform,
     ram: &mut [u8],
     external: &[u8],
+    window: Window,
     r: Record,
     budget: u32,
 ) -> Record {
     let mut page = [0u8; 256];
     let n = assemble(line, &mut page);
-    run_bytes(&page[..n], platform, ram, external, r, budget)
+    run_bytes(&page[..n], platform, ram, external, window, r, budget)
 }
 
-// The same with the empty set.
+// The same with the empty set, and all of RAM as its window.
 fn run(line: &[u8], ram: &mut [u8], external: &[u8], r: Record, budget: u32) -> Record {
-    run_with(line, platform::default_platform(), ram, external, r, budget)
+    run_with(
+        line,
+        platform::default_platform(),
+        ram,
+        external,
+        window::whole_ram(),
+        r,
+        budget,
+    )
 }
 
 // A step by a line's page.
 fn step(line: &[u8], ram: &mut [u8], r: Record) -> Record {
     let mut page = [0u8; 256];
     let n = assemble(line, &mut page);
-    show_answer(machine::step(&page[..n], platform::default_platform(), ram, b"", r))
+    show_answer(machine::step(
+        &page[..n],
+        platform::default_platform(),
+        ram,
+        b"",
+        window::whole_ram(),
+        r,
+    ))
 }
 
 // ---- cases of one call
@@ -183,7 +201,14 @@ fn run_lines(input: &[u8]) {
 // ---- refusals of what a line does not say
 
 // By the lengths of page, RAM and external data. The page starts as 2001 DF00, and all else is 0.
-fn run_lengths(platform: Platform, r: Record, page: usize, ram: usize, external: usize)
+fn run_lengths(
+    platform: Platform,
+    window: Window,
+    r: Record,
+    page: usize,
+    ram: usize,
+    external: usize,
+)
     requires { ⌜ (page ≤ 260) × (ram ≤ 32769) × (external ≤ 257) ⌝ }
 {
     let mut page_bytes = [0u8; 260];
@@ -197,6 +222,7 @@ fn run_lengths(platform: Platform, r: Record, page: usize, ram: usize, external:
         platform,
         &mut ram_bytes[..ram],
         &external_bytes[..external],
+        window,
         r,
         9,
     );
@@ -204,33 +230,50 @@ fn run_lengths(platform: Platform, r: Record, page: usize, ram: usize, external:
 
 // Record and place are not fit either, and each call has one thing less that is refused.
 fn refusal_order() {
-    show_line(b"# order: 18, 1, 2, 3 before the rest");
+    show_line(b"# order: 18, 1, 2, 3, 20 before the rest");
     let unfit = state::set_place(state::set_sp(state::fresh_record(), 0xFFFE), 2);
     let full = platform::default_platform();
     let unknown = Platform {
         never_return: 0,
         profile: 2,
     };
-    run_lengths(unknown, unfit, 2, 32767, 1);
-    run_lengths(full, unfit, 2, 32767, 1);
-    run_lengths(full, unfit, 4, 32767, 1);
-    run_lengths(full, unfit, 4, 32768, 1);
+    let backward = Window { start: 5, end: 4 };
+    run_lengths(unknown, backward, unfit, 2, 32767, 1);
+    run_lengths(full, backward, unfit, 2, 32767, 1);
+    run_lengths(full, backward, unfit, 4, 32767, 1);
+    run_lengths(full, backward, unfit, 4, 32768, 1);
+    run_lengths(full, backward, unfit, 4, 32768, 0);
 }
 
 // SP, base and place are not fit; from one call to the next one thing less, first with a RAM offset, then with an external one.
 fn refused_records() {
     show_line(b"# order: 41, 42, then 43 or 44, then 5");
     let full = platform::default_platform();
+    let whole = window::whole_ram();
     let placed = state::set_place(state::fresh_record(), 2);
     let in_ram = state::set_base(placed, Base::Ram(0x10_0000));
     let in_external = state::set_base(placed, Base::External(256));
-    run_lengths(full, state::set_sp(in_ram, 0xFFFE), 4, 32768, 256);
-    run_lengths(full, state::set_sp(in_ram, 0x17FFE), 4, 32768, 256);
-    run_lengths(full, in_ram, 4, 32768, 256);
-    run_lengths(full, state::set_sp(in_external, 0x18002), 4, 32768, 256);
-    run_lengths(full, state::set_sp(in_external, 0x10002), 4, 32768, 256);
-    run_lengths(full, in_external, 4, 32768, 256);
-    run_lengths(full, placed, 4, 32768, 256);
+    run_lengths(full, whole, state::set_sp(in_ram, 0xFFFE), 4, 32768, 256);
+    run_lengths(full, whole, state::set_sp(in_ram, 0x17FFE), 4, 32768, 256);
+    run_lengths(full, whole, in_ram, 4, 32768, 256);
+    run_lengths(
+        full,
+        whole,
+        state::set_sp(in_external, 0x18002),
+        4,
+        32768,
+        256,
+    );
+    run_lengths(
+        full,
+        whole,
+        state::set_sp(in_external, 0x10002),
+        4,
+        32768,
+        256,
+    );
+    run_lengths(full, whole, in_external, 4, 32768, 256);
+    run_lengths(full, whole, placed, 4, 32768, 256);
 }
 
 // Each alone.
@@ -240,12 +283,13 @@ fn refused_lengths() {
     );
     let fresh = state::fresh_record();
     let full = platform::default_platform();
-    run_lengths(full, fresh, 3, 32768, 0);
-    run_lengths(full, fresh, 260, 32768, 0);
-    run_lengths(full, fresh, 4, 32767, 0);
-    run_lengths(full, fresh, 4, 32769, 0);
-    run_lengths(full, fresh, 4, 32768, 255);
-    run_lengths(full, fresh, 4, 32768, 257);
+    let whole = window::whole_ram();
+    run_lengths(full, whole, fresh, 3, 32768, 0);
+    run_lengths(full, whole, fresh, 260, 32768, 0);
+    run_lengths(full, whole, fresh, 4, 32767, 0);
+    run_lengths(full, whole, fresh, 4, 32769, 0);
+    run_lengths(full, whole, fresh, 4, 32768, 255);
+    run_lengths(full, whole, fresh, 4, 32768, 257);
 }
 
 fn run_base(base: Base) {
@@ -333,6 +377,7 @@ fn run_on(line: &[u8], never_return: u64, profile: u32) {
         },
         &mut ram,
         b"",
+        window::whole_ram(),
         record_of(line),
         budget_of(line),
     );
@@ -374,6 +419,72 @@ fn profiles() {
     run_profiles(b"00000000 00000000 18000 0000 0 00000009 2800 D001, 2001 DF00, 2000 DF00");
 }
 
+// ---- windows
+
+fn run_in(line: &[u8], start: u32, end: u32) {
+    let mut ram = [0u8; 32768];
+    run_with(
+        line,
+        platform::default_platform(),
+        &mut ram,
+        b"",
+        Window { start, end },
+        record_of(line),
+        budget_of(line),
+    );
+}
+
+// In the window of the 4 bytes that the line accesses, in one a byte late, in one a byte short, and in an empty one.
+fn run_edges(line: &[u8], at: u32)
+    requires { ⌜ at ≤ 32764 ⌝ }
+{
+    show_line(line);
+    run_in(line, at, at + 4);
+    run_in(line, at + 1, at + 4);
+    run_in(line, at, at + 3);
+    run_in(line, at, at);
+}
+
+fn windows() {
+    show_line(b"# a word in a window of its 4 bytes, a byte late, a byte short, and empty");
+    run_edges(
+        b"00010004 00000000 18000 0000 0 00000009 BF00 DFE0, F8C9 0000, BF00 DF00",
+        4,
+    );
+    run_edges(
+        b"00010007 00000000 18000 0000 0 00000009 BF00 DFE0, F8D8 1000, BF00 DF00",
+        7,
+    );
+    run_edges(b"00000000 00000000 17FFC 0000 0 00000009 9000 DF00", 0x7FFC);
+    run_edges(b"00000000 00000000 10000 0000 0 00000009 9801 DF00", 4);
+    run_edges(
+        b"00000000 00000000 10010 0000 0 00000009 BF00 DF02, BF00 DF00, 0004 C400",
+        0x14,
+    );
+    run_edges(
+        b"00000000 00000000 10010 0000 0 00000009 BF00 DF02, BF00 DF00, 0004 C500",
+        0x14,
+    );
+}
+
+fn run_in_none(line: &[u8]) {
+    show_line(line);
+    run_in(line, 0, 0);
+}
+
+fn window_order() {
+    show_line(b"# in an empty window: faults 1, 2 and 4 before 7; SP moves are not tested");
+    run_in_none(b"00000000 00000000 18000 0000 0 00000009 F8C9 0000, BF00 DF00");
+    run_in_none(b"00017FFD 00000000 18000 0000 0 00000009 BF00 DFE0, F8C9 0000, BF00 DF00");
+    run_in_none(b"00000000 00000000 18000 0000 0 00000009 9000 DF00");
+    run_in_none(b"00000000 00000000 18000 0000 0 00000009 DFC1 DF00");
+    show_line(b"# windows: 32,768 to 32,768; 1 to 0; 0 to 32,769");
+    let line = b"00000000 00000000 18000 0000 0 00000009 2001 DF00";
+    run_in(line, 32768, 32768);
+    run_in(line, 1, 0);
+    run_in(line, 0, 32769);
+}
+
 fn main() {
     let mut input = [0u8; 16384];
     let Input::Bytes(n) = streams::read_input(&PROGRAM, &mut input) else {
@@ -388,4 +499,6 @@ fn main() {
     two_steps();
     last_syscalls();
     profiles();
+    windows();
+    window_order();
 }

@@ -16,6 +16,7 @@ pub fn try_page(page: &[u8], room: &mut [u8]) -> Written
         platform::default_platform(),
         &mut ram,
         b"",
+        window::whole_ram(),
         state::fresh_record(),
         100_000,
     );

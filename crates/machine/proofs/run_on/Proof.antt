@@ -14,14 +14,14 @@ use Rattle.machine.proofs.run_on.Statement.{statement}
 use Rattle.machine.proofs.run_on.Tie as tie
 
 abbrev Inv-loop : tie.InvT-loop
-Inv-loop page platform external ram₀ budget r₀ steps₀ ram r steps =
-    (plain (instructionOf (settingOf (programOf page platform) external)) (budget - steps) steps r ram ≡ plain (instructionOf (settingOf (programOf page platform) external)) budget 0 r₀ ram₀)
+Inv-loop page platform external window ram₀ budget r₀ steps₀ ram r steps =
+    (plain (instructionOf (settingOf (programOf page platform) external window)) (budget - steps) steps r ram ≡ plain (instructionOf (settingOf (programOf page platform) external window)) budget 0 r₀ ram₀)
     × (steps ≤ budget)
     × (length ram ≡ length ram₀)
     × (length (r .regs) ≡ 8)
 
 abbrev μ-loop : tie.MeasureT-loop
-μ-loop page platform external ram₀ budget r₀ steps₀ ram r steps = budget - steps
+μ-loop page platform external window ram₀ budget r₀ steps₀ ram r steps = budget - steps
 
 loop-holds : tie.Need-loop-holds Inv-loop μ-loop
 loop-holds c = (rw sub-zero, search needs, refl, search needs)
@@ -64,7 +64,7 @@ loop-again-2 : tie.Need-loop-again-2 Inv-loop μ-loop
 loop-again-2 c = (
   turns _ _ _ _ _ _ _ _ _ _ (c .before .before .before .before .before .before .before .before .before .before .loop-test .taken) (c .before .before .before .before .before .before .execute .ensures) (c .enum-told2 .given .1) (c .before .before .applied .ensures) (c .before .before .before .before .before .before .before .before .before .before .before .loop .inv .0),
   omega arith,
-  c .before .before .before .before .before .before .execute .kept .1 .1 .1 .1 .1 .0 ∙ c .before .before .before .before .before .before .before .before .before .before .before .loop .inv .2,
+  c .before .before .before .before .before .before .execute .kept .1 .1 .1 .1 .1 .1 .0 ∙ c .before .before .before .before .before .before .before .before .before .before .before .loop .inv .2,
   search needs,
 )
 
@@ -72,7 +72,7 @@ add-stopped : tie.Need-add-stopped Inv-loop μ-loop
 add-stopped c = omega (arith, c .before .before .before .before .before .before .before .before .before .before .before .loop-test .taken, c .before .before .before .before .before .before .before .before .before .before .before .before .before .before .before .before .fits)
 
 same-length : tie.Need-same-length Inv-loop μ-loop
-same-length c = c .before .before .before .before .before .before .before .before .execute .kept .1 .1 .1 .1 .1 .0 ∙ c .before .before .before .before .before .before .before .before .before .before .before .before .before .loop .inv .2
+same-length c = c .before .before .before .before .before .before .before .before .execute .kept .1 .1 .1 .1 .1 .1 .0 ∙ c .before .before .before .before .before .before .before .before .before .before .before .before .before .loop .inv .2
 
 returns : tie.Need-returns Inv-loop μ-loop
 returns c = rw (c .stopped .ensures) (turns _ _ _ _ _ _ _ _ _ _ (c .before .before .before .before .before .before .before .before .before .before .before .before .loop-test .taken) (c .before .before .before .before .before .before .before .before .execute .ensures) (c .before .before .end .given .1) (c .before .before .before .before .applied .ensures) (c .before .before .before .before .before .before .before .before .before .before .before .before .before .loop .inv .0))
@@ -81,19 +81,19 @@ add-stopped-2 : tie.Need-add-stopped-2 Inv-loop μ-loop
 add-stopped-2 c = omega (arith, c .before .before .before .before .before .before .before .before .before .before .before .loop-test .taken, c .before .before .before .before .before .before .before .before .before .before .before .before .before .before .before .before .fits)
 
 same-length-2 : tie.Need-same-length-2 Inv-loop μ-loop
-same-length-2 c = c .before .before .before .before .before .before .before .before .execute .kept .1 .1 .1 .1 .1 .0 ∙ c .before .before .before .before .before .before .before .before .before .before .before .before .before .loop .inv .2
+same-length-2 c = c .before .before .before .before .before .before .before .before .execute .kept .1 .1 .1 .1 .1 .1 .0 ∙ c .before .before .before .before .before .before .before .before .before .before .before .before .before .loop .inv .2
 
 returns-2 : tie.Need-returns-2 Inv-loop μ-loop
 returns-2 c = rw (c .stopped2 .ensures) (turns _ _ _ _ _ _ _ _ _ _ (c .before .before .before .before .before .before .before .before .before .before .before .before .loop-test .taken) (c .before .before .before .before .before .before .before .before .execute .ensures) (c .before .before .end2 .given .1) (c .before .before .before .before .applied .ensures) (c .before .before .before .before .before .before .before .before .before .before .before .before .before .loop .inv .0))
 
 same-length-3 : tie.Need-same-length-3 Inv-loop μ-loop
-same-length-3 c = c .before .before .before .before .before .before .before .before .execute .kept .1 .1 .1 .1 .1 .0 ∙ c .before .before .before .before .before .before .before .before .before .before .before .before .before .loop .inv .2
+same-length-3 c = c .before .before .before .before .before .before .before .before .execute .kept .1 .1 .1 .1 .1 .1 .0 ∙ c .before .before .before .before .before .before .before .before .before .before .before .before .before .loop .inv .2
 
 returns-3 : tie.Need-returns-3 Inv-loop μ-loop
 returns-3 c = rw (c .stopped3 .ensures) (turns _ _ _ _ _ _ _ _ _ _ (c .before .before .before .before .before .before .before .before .before .before .before .before .loop-test .taken) (c .before .before .before .before .before .before .before .before .execute .ensures) (c .before .before .end3 .given .1) (c .before .before .before .before .applied .ensures) (c .before .before .before .before .before .before .before .before .before .before .before .before .before .loop .inv .0))
 
 same-length-4 : tie.Need-same-length-4 Inv-loop μ-loop
-same-length-4 c = c .before .before .before .before .before .before .before .execute .kept .1 .1 .1 .1 .1 .0 ∙ c .before .before .before .before .before .before .before .before .before .before .before .before .loop .inv .2
+same-length-4 c = c .before .before .before .before .before .before .before .execute .kept .1 .1 .1 .1 .1 .1 .0 ∙ c .before .before .before .before .before .before .before .before .before .before .before .before .loop .inv .2
 
 returns-4 : tie.Need-returns-4 Inv-loop μ-loop
 returns-4 c = rw (c .stopped4 .ensures) (turns _ _ _ _ _ _ _ _ _ _ (c .before .before .before .before .before .before .before .before .before .before .before .loop-test .taken) (c .before .before .before .before .before .before .before .execute .ensures) (c .before .enum-told3 .given .1) (c .before .before .before .applied .ensures) (c .before .before .before .before .before .before .before .before .before .before .before .before .loop .inv .0))

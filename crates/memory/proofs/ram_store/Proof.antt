@@ -1,30 +1,26 @@
-use mathlib.Core.Path.{refl}
+use mathlib.Core.Path.{refl, sym, _∙_}
 use native.Mathlib.Omega.{arith}
-use lib.Dec.{lit≤}
-use Rattle.endian.proofs.Theorems.{width-le}
-use Rattle.memory.specs.Memory.{ramStored, ramAfter}
-use Rattle.memory.proofs.Laws.{inside, past}
+use Rattle.memory.specs.Memory.{ramAfter}
+use Rattle.memory.proofs.Ram.{done, done-near, failed}
 use borrow.Author.Needs.{needs}
 use Rattle.memory.proofs.ram_store.Statement.{statement}
 use Rattle.memory.proofs.ram_store.Tie as tie
 
-width-requires : tie.Need-width-requires
-width-requires c κs = tt
-
-sub-last : tie.Need-sub-last
-sub-last c = omega (arith, width-le (c .before .before .args .size), c .width .ensures)
-
-store-requires : tie.Need-store-requires
-store-requires c κs = tt
+cast-store : tie.Need-cast-store
+cast-store c = omega (arith, done-near _ _ _ _ (sym (c .before .before .before .ram-access .ensures) ∙ c .before .enum-told .given .1))
 
 returns : tie.Need-returns
-unfolding ramStored ramAfter
-returns c = rw (inside 32768 _ _ _ _ (lit≤ tt) (lit≤ tt) (c .before .before .before .before .before .width .ensures) (c .before .before .before .before .if1 .taken)) (refl, c .before .before .store .ensures)
+unfolding ramAfter
+returns c =
+    let told = sym (c .before .before .before .before .before .before .ram-access .ensures) ∙ c .before .before .before .before .enum-told .given .1 in
+    rw (c .before .before .store .ensures, ← c .before .before .before .before .before .before .before .width .ensures, told, done _ _ _ _ told .0, done _ _ _ _ told .1) (refl, refl)
 
 returns-2 : tie.Need-returns-2
-unfolding ramStored ramAfter
-returns-2 c = rw (past 32768 _ _ _ (c .before .width .ensures) (c .if1 .left)) (refl, refl)
+unfolding ramAfter
+returns-2 c =
+    let told = sym (c .before .before .before .ram-access .ensures) ∙ c .before .access .given .1 in
+    rw (← c .before .before .before .before .width .ensures, told, failed _ _ _ _ _ told) (refl, refl)
 
 pub ram-store-spec : {M : Type 1} → statement M
-ram-store-spec = tie.close (tie.spec width-requires sub-last (λ c. search needs) store-requires
-    (λ c. search needs) returns returns-2)
+ram-store-spec = tie.close (tie.spec (λ c κs. tt) (λ c κs. tt) (λ c. search needs) cast-store (λ c κs. tt)
+    (λ c. search needs) (λ c. search needs) returns returns-2)

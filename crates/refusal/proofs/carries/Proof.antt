@@ -5,8 +5,8 @@ use Rattle.refusal.proofs.carries.Tie as tie
 returns-6 : tie.Need-returns-6
 returns-6 c = rw (c .before .r .given .1)
 
-returns-15 : tie.Need-returns-15
-returns-15 c = rw (c .before .r2 .given .1)
+returns-16 : tie.Need-returns-16
+returns-16 c = rw (c .before .r2 .given .1)
 
 pub carries-spec : {M : Type 1} → statement M
 carries-spec = tie.close (tie.spec (λ c. search needs) (λ c. search needs) (λ c. search needs)
@@ -14,6 +14,6 @@ carries-spec = tie.close (tie.spec (λ c. search needs) (λ c. search needs) (λ
     (λ c. search needs) (λ c. search needs) (λ c. search needs) (λ c. search needs)
     (λ c. search needs) (λ c. search needs) (λ c. search needs) (λ c. search needs)
     (λ c. search needs) (λ c. search needs) (λ c. search needs) (λ c. search needs)
-    (λ c. search needs) returns-6 (λ c. search needs) (λ c. search needs)
+    (λ c. search needs) (λ c. search needs) returns-6 (λ c. search needs) (λ c. search needs)
     (λ c. search needs) (λ c. search needs) (λ c. search needs) (λ c. search needs)
-    (λ c. search needs) (λ c. search needs) returns-15)
+    (λ c. search needs) (λ c. search needs) (λ c. search needs) returns-16)

@@ -10,5 +10,5 @@ slice-aggregate-step c = sym (length-take-le (c .before .before .assemble .resul
 
 pub step-spec : {M : Type 1} → statement M
 step-spec = tie.close (tie.spec (λ c. search needs) (λ c κs. tt) (λ c. search needs)
-    slice-aggregate-step (λ c κs. tt) (λ c. search needs) (λ c κs. tt) (λ c κs. tt) (λ c. search needs)
+    slice-aggregate-step (λ c κs. tt) (λ c. search needs) (λ c κs. tt) (λ c κs. tt) (λ c κs. tt) (λ c. search needs)
     (λ c. search needs))

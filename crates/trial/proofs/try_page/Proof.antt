@@ -20,11 +20,11 @@ text-is page a ram e = ap (λ (x : Result). transcriptOf (x .stop) (x .steps) (x
 returns : tie.Need-returns
 returns c =
     let called = c .before .before .before .before .before .before in
-    let start = called .before .before .before .before in
+    let start = called .before .before .before .before .before in
     let page = start .before .before .before .args .page .now in
-    let run = rw (start .default-platform .ensures, called .before .fresh-record .ensures) at (called .run .ensures) in
+    let run = rw (start .default-platform .ensures, called .before .before .whole-ram .ensures, called .before .fresh-record .ensures) at (called .run .ensures) in
     rw (text-is page (called .run .result) _ run) (c .before .before .write .ensures)
 
 pub try-page-spec : {M : Type 1} → statement M
 try-page-spec = tie.close (tie.spec (λ c κs. tt) (λ c. search needs) (λ c. search needs) (λ c κs. tt)
-    (λ c κs. tt) (λ c κs. tt) (λ c. search needs) returns)
+    (λ c κs. tt) (λ c κs. tt) (λ c κs. tt) (λ c. search needs) returns)
