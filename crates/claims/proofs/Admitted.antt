@@ -8,6 +8,7 @@ use mathlib.Core.Path.{_≡_, refl}
 use lib.ListN.{length}
 use borrow.Author.Tests.{le-ltb, eq-eqb}
 use Rattle.refusal.specs.Refusals.{accepted, refused, decision}
+use Rattle.window.specs.Windows.{windowFits}
 use Rattle.platform.specs.Programs.{programRules, Setting}
 use Rattle.platform.proofs.Theorems.{program-accepts}
 use Rattle.count.specs.Count.{countOf}
@@ -28,17 +29,23 @@ use Rattle.claims.specs.Demand3.{Allowed, FitStart}
 pub record AllowedAndFit (setting : Setting) (r : Record) (ram : List ℕ) : Type 0 where
   pub programAllowed : decision (programRules (setting .program)) ≡ accepted
   pub dataAllowed : externalFits (length (setting .external)) ≡ true
+  pub windowAllowed : windowFits (setting .window) ≡ true
   pub fits : Fit setting r ram
 
 -- what is allowed and fit is not refused, and what is not refused is allowed and fit
 pub allowed-admitted : (setting : Setting) (r : Record) (ram : List ℕ) → AllowedAndFit setting r ram → runDecision setting r ram ≡ accepted
 allowed-admitted setting r ram h =
-    accepts setting r ram (h .programAllowed) (h .fits .ramFits) (h .dataAllowed) (h .fits .recordFits) (h .fits .placeFits)
+    accepts setting r ram (h .programAllowed) (h .fits .ramFits) (h .dataAllowed) (h .windowAllowed) (h .fits .recordFits) (h .fits .placeFits)
 
 pub admitted-allowed : (setting : Setting) (r : Record) (ram : List ℕ) → runDecision setting r ram ≡ accepted → AllowedAndFit setting r ram
 admitted-allowed setting r ram a =
     let all = accepted-all setting r ram a in
-    record { programAllowed = all .0; dataAllowed = all .2; fits = record { recordFits = all .3; placeFits = all .4; ramFits = all .1 } }
+    record {
+      programAllowed = all .0;
+      dataAllowed = all .2;
+      windowAllowed = all .3;
+      fits = record { recordFits = all .4; placeFits = all .5; ramFits = all .1 };
+    }
 
 -- ---- what may be run
 
@@ -51,7 +58,12 @@ pub allowed-start : (setting : Setting) → Allowed setting → (start : State) 
     → runDecision setting (start .rec) (start .ram) ≡ accepted
 allowed-start setting allowed start fit =
     allowed-admitted setting (start .rec) (start .ram)
-    (record { programAllowed = allowed-program setting allowed; dataAllowed = allowed .externalAllowed; fits = fit })
+    (record {
+      programAllowed = allowed-program setting allowed;
+      dataAllowed = allowed .externalAllowed;
+      windowAllowed = allowed .windowAllowed;
+      fits = fit;
+    })
 
 fresh-fits : (k external : ℕ) → fitRecord (withPlace freshRecord k) external ≡ true
 unfolding fitRecord withPlace
@@ -77,4 +89,4 @@ pub none-admitted : (setting : Setting) → Allowed setting → (ram : List ℕ)
     → countOf (setting .program) ≡ 0 → runDecision setting freshRecord ram ≡ refused 5 []
 unfolding runDecision fitRecord fitPlace
 none-admitted setting allowed ram n z =
-    rw (allowed .profileKnown, allowed .pageAllowed, eq-eqb _ _ n, allowed .externalAllowed, le-ltb 0 (countOf (setting .program)) (omega (arith, z)))
+    rw (allowed .profileKnown, allowed .pageAllowed, eq-eqb _ _ n, allowed .externalAllowed, allowed .windowAllowed, le-ltb 0 (countOf (setting .program)) (omega (arith, z)))

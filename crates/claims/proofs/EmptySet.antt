@@ -10,6 +10,7 @@ use lib.Dec.{ltb}
 use borrow.Author.Tests.{eqb-true, eqb-false}
 use Rattle.prefix.specs.Prefix.{Successors, allWithin, greatestClosed}
 use Rattle.page.specs.Page.{bundlesIn, halfwordAt, wordAt, pageFits, firstOf, secondOf}
+use Rattle.window.specs.declared.Window.{Window}
 use Rattle.platform.specs.Platforms.{neverReturns}
 use Rattle.platform.specs.Programs.{Program, decode16In, decode32In, settingOf, encodingsIn}
 use Rattle.platform.specs.declared.Platform.{Platform}
@@ -86,22 +87,22 @@ module _ (page : List ℕ) (platform : Platform) (a b : ℕ) where
       go true false false q e = here (2 * (place / 2) + 1) (omega (arith, eqb-false (place % 2) 0 q)) e
       go false wide even q e = absurd (not-straight Unlisted n tt e)
 
-  effect-same : (external : List ℕ) (r : Record) (ram : List ℕ) (i : Instruction) → Ends i
-      → effectOf (settingOf one external) r ram i ≡ effectOf (settingOf other external) r ram i
+  effect-same : (external : List ℕ) (window : Window) (r : Record) (ram : List ℕ) (i : Instruction) → Ends i
+      → effectOf (settingOf one external window) r ram i ≡ effectOf (settingOf other external window) r ram i
   unfolding effectOf served
-  effect-same external r ram (Data operation) h = refl
-  effect-same external r ram (Memory access) h = refl
-  effect-same external r ram (Cbz imm6 n) h = refl
-  effect-same external r ram (Cbnz imm6 n) h = refl
-  effect-same external r ram (Bcc condition imm8) h = refl
-  effect-same external r ram (B imm11) h = refl
-  effect-same external r ram (instruction.Service n) h = rw (h n refl)
-  effect-same external r ram Unlisted h = refl
+  effect-same external window r ram (Data operation) h = refl
+  effect-same external window r ram (Memory access) h = refl
+  effect-same external window r ram (Cbz imm6 n) h = refl
+  effect-same external window r ram (Cbnz imm6 n) h = refl
+  effect-same external window r ram (Bcc condition imm8) h = refl
+  effect-same external window r ram (B imm11) h = refl
+  effect-same external window r ram (instruction.Service n) h = rw (h n refl)
+  effect-same external window r ram Unlisted h = refl
 
-  instruction-same : (external : List ℕ) (r : Record) (ram : List ℕ) → Alike (r .place)
-      → instructionOf (settingOf one external) r ram ≡ instructionOf (settingOf other external) r ram
+  instruction-same : (external : List ℕ) (window : Window) (r : Record) (ram : List ℕ) → Alike (r .place)
+      → instructionOf (settingOf one external window) r ram ≡ instructionOf (settingOf other external window) r ram
   unfolding instructionOf instructionAt
-  instruction-same external r ram h = effect-same external r ram (instructionAt one (r .place)) (at-place (r .place) h)
+  instruction-same external window r ram h = effect-same external window r ram (instructionAt one (r .place)) (at-place (r .place) h)
 
   -- ---- where all of the page ends alike
 
@@ -113,13 +114,13 @@ module _ (page : List ℕ) (platform : Platform) (a b : ℕ) where
     unfolding fitPlace secondFits
     fit-same place = rw (count-same, terminator-same one other (decode16In one (firstOf page (place / 2))) (h (2 * (place / 2))))
 
-    decision-same : (external : List ℕ) (r : Record) (ram : List ℕ)
-        → runDecision (settingOf one external) r ram ≡ runDecision (settingOf other external) r ram
+    decision-same : (external : List ℕ) (window : Window) (r : Record) (ram : List ℕ)
+        → runDecision (settingOf one external window) r ram ≡ runDecision (settingOf other external window) r ram
     unfolding runDecision
-    decision-same external r ram = rw (fit-same (r .place))
+    decision-same external window r ram = rw (fit-same (r .place))
 
-    all-same : (external : List ℕ) → instructionOf (settingOf one external) ≡ instructionOf (settingOf other external)
-    all-same external = λ i r ram. instruction-same external r ram (h (r .place)) i
+    all-same : (external : List ℕ) (window : Window) → instructionOf (settingOf one external window) ≡ instructionOf (settingOf other external window)
+    all-same external window = λ i r ram. instruction-same external window r ram (h (r .place)) i
 
   endings-alone : EndingsAlone page platform a b
   endings-alone = record {
@@ -127,7 +128,7 @@ module _ (page : List ℕ) (platform : Platform) (a b : ℕ) where
     read = λ k h g. rw (successors-same k h g);
     instructions = instruction-same;
     counted = λ h. rw (count-same h);
-    ran = λ h external budget r ram. rw (decision-same h external r ram, all-same h external);
+    ran = λ h external window budget r ram. rw (decision-same h external window r ram, all-same h external window);
   }
 
 -- ---- the empty set
@@ -138,7 +139,7 @@ empty-set = record {
   endings = table-ending;
   terminators = λ page platform n. rw (table-ending (serviceOf page n));
   jumps = λ page platform place n. rw (table-ending (serviceOf page n));
-  services = λ page platform external r ram n. rw (table-ending (serviceOf page n));
+  services = λ page platform external window r ram n. rw (table-ending (serviceOf page n));
   exits = λ page platform n. ap isExit (table-ending (serviceOf page n));
   elsewhere = endings-alone;
   never-returns = refl;

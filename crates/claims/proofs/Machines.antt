@@ -19,7 +19,12 @@ keeps-admitted Call handed gave meets setting = record {
   keeps = λ r ram a.
       let here = admitted-allowed setting r ram a in
       keeps-too (Fit setting) (λ s after. runDecision setting s after ≡ accepted) (ServiceAt (setting .program) r) Known
-      (λ s after f. allowed-admitted setting s after (record { programAllowed = here .programAllowed; dataAllowed = here .dataAllowed; fits = f }))
+      (λ s after f. allowed-admitted setting s after (record {
+        programAllowed = here .programAllowed;
+        dataAllowed = here .dataAllowed;
+        windowAllowed = here .windowAllowed;
+        fits = f;
+      }))
       (instructionOf setting r ram) (keeps setting (here .programAllowed) r ram (here .fits));
   starts = λ r ram a.
       let here = admitted-allowed setting r ram a in

@@ -4,6 +4,7 @@ use Prim.Native.Nat.{ℕ}
 use mathlib.Core.List.{List, [], _∷_}
 use mathlib.Core.Path.{_≡_}
 use lib.ListN.{length}
+use Rattle.window.specs.Windows.{wholeRam}
 use Rattle.platform.specs.Programs.{Setting, defaultProgram, settingOf}
 use Rattle.state.specs.Record.{freshRecord, withRegister, withPlace}
 use Rattle.state.specs.declared.Record.{Record}
@@ -11,13 +12,13 @@ use Rattle.stop.specs.Stops.{budget, service, direct}
 use Rattle.machine.specs.Runs.{runOf}
 use Rattle.claims.specs.Pages.{pageOf}
 
--- a branch to itself; without external data
+-- a branch to itself; without external data, and with all of RAM
 abbrev pub looping : Setting
-looping = settingOf (defaultProgram (pageOf (0xE7FE ∷ 0xBF00 ∷ []))) []
+looping = settingOf (defaultProgram (pageOf (0xE7FE ∷ 0xBF00 ∷ []))) [] wholeRam
 
 -- mov r0, #1 and return
 abbrev pub returning : Setting
-returning = settingOf (defaultProgram (pageOf (0x2001 ∷ 0xDF00 ∷ []))) []
+returning = settingOf (defaultProgram (pageOf (0x2001 ∷ 0xDF00 ∷ []))) [] wholeRam
 
 -- r0 = 1, at the return
 abbrev pub atReturn : Record

@@ -9,6 +9,7 @@ use mathlib.Core.Path.{_≡_}
 use lib.ListN.{length}
 use Rattle.page.specs.Page.{pageFits}
 use Rattle.isa.specs.Profiles.{isKnown}
+use Rattle.window.specs.Windows.{windowFits}
 use Rattle.platform.specs.Programs.{Setting, programOf, settingOf}
 use Rattle.state.specs.Validation.{externalFits}
 use Rattle.plain.specs.PlainMachine.{Result}
@@ -30,6 +31,7 @@ pub record Allowed (s : Setting) : Type 0 where
   pub profileKnown : isKnown (s .program .profile) ≡ true
   pub pageAllowed : pageFits (s .program .page) ≡ true
   pub externalAllowed : externalFits (length (s .external)) ≡ true
+  pub windowAllowed : windowFits (s .window) ≡ true
 
 -- what a series may start from: a fit record with a fit place, and RAM of its size
 abbrev pub FitStart : Setting → State → Type 0
@@ -42,6 +44,7 @@ machineOf Call handed gave setting = record {
   setting = setting;
   instruction = instructionOf;
   decision = runDecision;
+  window = λ s. s .window;
   Starts = Starts (setting .program);
   ServiceAt = ServiceAt (setting .program);
   Known = Known;
@@ -52,8 +55,8 @@ machineOf Call handed gave setting = record {
 
 -- ---- the code's calls
 
--- a call of `run` or `step` as the checker reads it: the arguments (page, platform, RAM, external data, record and, for `run`, the
--- budget), the answer, what is lent at exit, and all that is known of them: the contract
+-- a call of `run` or `step` as the checker reads it: the arguments (page, platform, RAM, external data, window, record and, for
+-- `run`, the budget), the answer, what is lent at exit, and all that is known of them: the contract
 pub data CodeCall : Type 0 where
   ofRun : (κs : Lfts 3) (a : ArgsD run.signature κs) (x : ResD run.signature κs) (s : AtExit (endedOf 3 run-kinds.ps run-kinds.r) κs)
       → run-reads.Post κs a x s → CodeCall
@@ -62,15 +65,15 @@ pub data CodeCall : Type 0 where
 
 abbrev pub handedTo : CodeCall → Handed Setting
 handedTo (ofRun κs a x s contract) = record {
-  setting = settingOf (programOf (now (a .0)) (a .1 .0)) (now (a .1 .1 .1 .0));
-  budget = a .1 .1 .1 .1 .1 .0;
-  rec = a .1 .1 .1 .1 .0;
+  setting = settingOf (programOf (now (a .0)) (a .1 .0)) (now (a .1 .1 .1 .0)) (a .1 .1 .1 .1 .0);
+  budget = a .1 .1 .1 .1 .1 .1 .0;
+  rec = a .1 .1 .1 .1 .1 .0;
   ram = now (a .1 .1 .0);
 }
 handedTo (ofStep κs a x s contract) = record {
-  setting = settingOf (programOf (now (a .0)) (a .1 .0)) (now (a .1 .1 .1 .0));
+  setting = settingOf (programOf (now (a .0)) (a .1 .0)) (now (a .1 .1 .1 .0)) (a .1 .1 .1 .1 .0);
   budget = 1;
-  rec = a .1 .1 .1 .1 .0;
+  rec = a .1 .1 .1 .1 .1 .0;
   ram = now (a .1 .1 .0);
 }
 

@@ -4,6 +4,7 @@ use mathlib.Core.List.{List, [], _∷_}
 use mathlib.Core.Path.{_≡_}
 use lib.ListN.{length}
 use Rattle.page.specs.Page.{halfwordAt}
+use Rattle.window.specs.declared.Window.{Window}
 use Rattle.platform.specs.Platforms.{platformOf, withSet}
 use Rattle.platform.specs.Programs.{Program, programOf, decode16In, settingOf}
 use Rattle.platform.specs.declared.Platform.{Platform}
@@ -41,12 +42,12 @@ module _ (page : List ℕ) (platform : Platform) (a b : ℕ) where
     pub successors : (k : ℕ) → EndsAlike (2 * k) → EndsAlike (2 * k + 1) → successorsOf withA k ≡ successorsOf withB k
     pub read : (k : ℕ) → EndsAlike (2 * k) → EndsAlike (2 * k + 1) → readBundle withA k ≡ readBundle withB k
     -- an instruction that ends alike does the same
-    pub instructions : (external : List ℕ) (r : Record) (ram : List ℕ) → EndsAlike (r .place)
-        → instructionOf (settingOf withA external) r ram ≡ instructionOf (settingOf withB external) r ram
+    pub instructions : (external : List ℕ) (window : Window) (r : Record) (ram : List ℕ) → EndsAlike (r .place)
+        → instructionOf (settingOf withA external window) r ram ≡ instructionOf (settingOf withB external window) r ram
     -- where all of the page ends alike, count and runs are the same
     pub counted : ((place : ℕ) → EndsAlike place) → countProgram withA ≡ countProgram withB
-    pub ran : ((place : ℕ) → EndsAlike place) → (external : List ℕ) (budget : ℕ) (r : Record) (ram : List ℕ)
-        → runOf (settingOf withA external) budget r ram ≡ runOf (settingOf withB external) budget r ram
+    pub ran : ((place : ℕ) → EndsAlike place) → (external : List ℕ) (window : Window) (budget : ℕ) (r : Record) (ram : List ℕ)
+        → runOf (settingOf withA external window) budget r ram ≡ runOf (settingOf withB external window) budget r ram
 
 -- ---- the empty set
 
@@ -65,10 +66,10 @@ pub record EmptySet : Type 0 where
       → terminator (emptyIn page platform) (instruction.Service n) ≡ endsFlow (endingOf (serviceOf page n))
   pub jumps : (page : List ℕ) (platform : Platform) (place n : ℕ)
       → jumpOf (emptyIn page platform) place (instruction.Service n) ≡ serviceJump (endingOf (serviceOf page n))
-  pub services : (page : List ℕ) (platform : Platform) (external : List ℕ) (r : Record) (ram : List ℕ) (n : ℕ)
-      → served (settingOf (emptyIn page platform) external) r ram n
+  pub services : (page : List ℕ) (platform : Platform) (external : List ℕ) (window : Window) (r : Record) (ram : List ℕ) (n : ℕ)
+      → served (settingOf (emptyIn page platform) external window) r ram n
       ≡ servedBy (endingOf (serviceOf page n)) (exitOf page n) r (following page (r .place))
-      (serviceDoes (length external) (serviceOf page n) r ram)
+      (serviceDoes (length external) window (serviceOf page n) r ram)
   pub exits : (page : List ℕ) (platform : Platform) (n : ℕ) → isExit (endingIn (emptyIn page platform) n) ≡ isExit (endingOf (serviceOf page n))
   -- no other definition looks at the set
   pub elsewhere : (page : List ℕ) (platform : Platform) (a b : ℕ) → EndingsAlone page platform a b

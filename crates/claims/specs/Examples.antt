@@ -7,6 +7,7 @@ use lib.IntN.{pos}
 use Rattle.bits.specs.Integers.{SInt}
 use Rattle.isa.specs.declared.Instruction.the-variants.{B}
 use Rattle.branch.specs.Branches.{targetByte}
+use Rattle.window.specs.Windows.{wholeRam}
 use Rattle.platform.specs.Platforms.{defaultPlatform}
 use Rattle.platform.specs.Programs.{Setting, defaultProgram, settingOf}
 use Rattle.state.specs.Record.{freshRecord, withRegister, withFlags, withPlace}
@@ -24,9 +25,9 @@ counts = countOn defaultPlatform
 abbrev pub comparePage : List ℕ
 comparePage = pageOf (0x2801 ∷ 0xDB01 ∷ 0xDF00 ∷ 0xBF00 ∷ 0xDF00 ∷ 0xBF00 ∷ [])
 
--- without external data
+-- without external data, and with all of RAM
 abbrev pub comparing : Setting
-comparing = settingOf (defaultProgram comparePage) []
+comparing = settingOf (defaultProgram comparePage) [] wholeRam
 
 -- r0 = 0x80000000; after the compare; after the branch
 abbrev pub compared : Record

@@ -7,6 +7,7 @@ use Rattle.prefix.specs.Prefix.{SameUnlessBad}
 use Rattle.isa.specs.ListedEncodings.{decode16Of, decode32Of}
 use Rattle.isa.specs.Profiles.{comparesAndBranches, profileOf, isKnown, encodingsOf, decode16By, decode32By}
 use Rattle.isa.specs.declared.Instruction.the-variants.{Unlisted}
+use Rattle.window.specs.Windows.{wholeRam}
 use Rattle.platform.specs.Platforms.{platformOf}
 use Rattle.platform.specs.Programs.{programOf, Setting, settingOf}
 use Rattle.bundle.specs.Successors.{successorsOf}
@@ -26,7 +27,7 @@ bothCounts halfwords = (countOn (platformOf 0 0) halfwords, countOn (platformOf 
 
 -- what the instruction at place 0 of such a page does under profile 1
 abbrev pub effectIn : List ℕ → List ℕ → Effect
-effectIn halfwords ram = instructionOf (settingOf (programOf (pageOf halfwords) (platformOf 0 1)) []) freshRecord ram
+effectIn halfwords ram = instructionOf (settingOf (programOf (pageOf halfwords) (platformOf 0 1)) [] wholeRam) freshRecord ram
 
 pub record SmallProfile : Type 1 where
   -- profile 0 lists what the build paper lists

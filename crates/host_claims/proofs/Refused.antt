@@ -57,4 +57,4 @@ no-values setting total r ram = go (runDecision setting r ram) refl
     go : (d : Decision) → runDecision setting r ram ≡ d → NoValues (callBy d (instructionOf setting) total r ram .stop)
     go accepted e = plain-no-values (instructionOf setting) total 0 r ram
     go (refused n values) e =
-        sym (ap valuesIn e) ∙ bare-refusal (runRules setting r ram) (refl, (refl, (refl, (refl, (refl, (refl, (refl, (refl, (refl, tt)))))))))
+        sym (ap valuesIn e) ∙ bare-refusal (runRules setting r ram) (refl, (refl, (refl, (refl, (refl, (refl, (refl, (refl, (refl, (refl, tt))))))))))

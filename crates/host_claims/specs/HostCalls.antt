@@ -7,6 +7,7 @@ use denote.Triple.Clauses.{AtExit}
 use denote.Ref.{now}
 use mathlib.Core.List.{List, [], _∷_}
 use lib.ListN.{getD}
+use Rattle.window.specs.Windows.{windowOf}
 use Rattle.platform.specs.Platforms.{platformOf}
 use Rattle.platform.specs.Programs.{Setting, programOf, settingOf}
 use Rattle.stop.specs.Stops.{direct, byLiteral, Reason, budget, service, fault, unlisted, refused}
@@ -37,20 +38,21 @@ pub record LentBytes (l : Lent) : Type 0 where
   pub bytes : Bytes (l .bytes)
   pub ram : Bytes (l .ram)
 
--- page, the set of syscalls that never return, the profile's number, RAM, external data, the record's bytes and, for `mb_raw_run`, the budget
+-- page, the set of syscalls that never return, the profile's number, RAM, external data, the window's start and end, the record's bytes
+-- and, for `mb_raw_run`, the budget
 abbrev pub lentRun : (κs : Lfts 9) → ArgsD mb_raw_run.signature κs → Lent
 lentRun κs a = record {
-  setting = settingOf (programOf (now (a .0)) (platformOf (a .1 .0) (a .1 .1 .0))) (now (a .1 .1 .1 .1 .0));
-  budget = a .1 .1 .1 .1 .1 .1 .0;
-  bytes = now (a .1 .1 .1 .1 .1 .0);
+  setting = settingOf (programOf (now (a .0)) (platformOf (a .1 .0) (a .1 .1 .0))) (now (a .1 .1 .1 .1 .0)) (windowOf (a .1 .1 .1 .1 .1 .0) (a .1 .1 .1 .1 .1 .1 .0));
+  budget = a .1 .1 .1 .1 .1 .1 .1 .1 .0;
+  bytes = now (a .1 .1 .1 .1 .1 .1 .1 .0);
   ram = now (a .1 .1 .1 .0);
 }
 
 abbrev pub lentStep : (κs : Lfts 9) → ArgsD mb_raw_step.signature κs → Lent
 lentStep κs a = record {
-  setting = settingOf (programOf (now (a .0)) (platformOf (a .1 .0) (a .1 .1 .0))) (now (a .1 .1 .1 .1 .0));
+  setting = settingOf (programOf (now (a .0)) (platformOf (a .1 .0) (a .1 .1 .0))) (now (a .1 .1 .1 .1 .0)) (windowOf (a .1 .1 .1 .1 .1 .0) (a .1 .1 .1 .1 .1 .1 .0));
   budget = 1;
-  bytes = now (a .1 .1 .1 .1 .1 .0);
+  bytes = now (a .1 .1 .1 .1 .1 .1 .1 .0);
   ram = now (a .1 .1 .1 .0);
 }
 
@@ -69,11 +71,11 @@ lentTo (ofStep κs a x s bytes contract) = lentStep κs a
 -- the code, kind, value, literal, position, steps, the record's bytes and RAM
 abbrev pub crossedBy : HostCall → Crossed
 crossedBy (ofRun κs a x s bytes contract) =
-    answered x (now (s .1 .1 .1 .1 .1 .1 .1 .0)) (now (s .1 .1 .1 .1 .1 .1 .1 .1 .0)) (now (s .1 .1 .1 .1 .1 .1 .1 .1 .1 .0))
-    (now (s .1 .1 .1 .1 .1 .1 .1 .1 .1 .1 .0)) (now (s .1 .1 .1 .1 .1 .1 .1 .1 .1 .1 .1 .0)) (now (s .1 .1 .1 .1 .1 .0)) (now (s .1 .1 .1 .0))
+    answered x (now (s .1 .1 .1 .1 .1 .1 .1 .1 .1 .0)) (now (s .1 .1 .1 .1 .1 .1 .1 .1 .1 .1 .0)) (now (s .1 .1 .1 .1 .1 .1 .1 .1 .1 .1 .1 .0))
+    (now (s .1 .1 .1 .1 .1 .1 .1 .1 .1 .1 .1 .1 .0)) (now (s .1 .1 .1 .1 .1 .1 .1 .1 .1 .1 .1 .1 .1 .0)) (now (s .1 .1 .1 .1 .1 .1 .1 .0)) (now (s .1 .1 .1 .0))
 crossedBy (ofStep κs a x s bytes contract) =
-    answered x (now (s .1 .1 .1 .1 .1 .1 .0)) (now (s .1 .1 .1 .1 .1 .1 .1 .0)) (now (s .1 .1 .1 .1 .1 .1 .1 .1 .0))
-    (now (s .1 .1 .1 .1 .1 .1 .1 .1 .1 .0)) (now (s .1 .1 .1 .1 .1 .1 .1 .1 .1 .1 .0)) (now (s .1 .1 .1 .1 .1 .0)) (now (s .1 .1 .1 .0))
+    answered x (now (s .1 .1 .1 .1 .1 .1 .1 .1 .0)) (now (s .1 .1 .1 .1 .1 .1 .1 .1 .1 .0)) (now (s .1 .1 .1 .1 .1 .1 .1 .1 .1 .1 .0))
+    (now (s .1 .1 .1 .1 .1 .1 .1 .1 .1 .1 .1 .0)) (now (s .1 .1 .1 .1 .1 .1 .1 .1 .1 .1 .1 .1 .0)) (now (s .1 .1 .1 .1 .1 .1 .1 .0)) (now (s .1 .1 .1 .0))
 
 -- ---- what comes back, read
 

@@ -74,7 +74,7 @@ recordCalls (other seriesRecord seriesRam c ∷ cs) =
 abbrev pub stateIn : ByteState → State
 stateIn s = record { rec = recordIn (s .rec); ram = s .ram }
 
--- a call whose bytes hold none is refused, by 18, 1, 2 or 3, or by 255 with the position, and changes no byte
+-- a call whose bytes hold none is refused, by 18, 1, 2, 3 or 20, or by 255 with the position, and changes no byte
 abbrev pub KeepsBytes : HostCall → Type 0
 KeepsBytes c = crossedBy c ≡ record {
   stop = refusedWith (decision (noRecordRules (lentTo c .setting) (lentTo c .bytes) (lentTo c .ram)));

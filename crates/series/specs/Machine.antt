@@ -1,8 +1,9 @@
--- The machine that demand 3, and stop and go on, speak of: any instruction, any table of refusals, any calls.
+-- The machine that demand 3, stop and go on, and the claims on windows speak of: any instruction, any table of refusals, any calls.
 use Prim.Native.Nat.{ℕ}
 use mathlib.Core.List.{List}
 use mathlib.Core.Path.{_≡_}
 use Rattle.refusal.specs.Refusals.{Decision, accepted, refused}
+use Rattle.window.specs.declared.Window.{Window}
 use Rattle.state.specs.declared.Record.{Record}
 use Rattle.stop.specs.Stops.{Exit}
 use Rattle.stop.specs.Stops as stops
@@ -22,6 +23,8 @@ pub record Machine : Type 1 where
   pub setting : Setting
   pub instruction : Setting → Record → List ℕ → Effect
   pub decision : Setting → Record → List ℕ → Decision
+  -- the part of RAM that a call may read and write
+  pub window : Setting → Window
   -- a listed instruction starts at the record's place
   pub Starts : Record → Type 0
   -- a service stands there that exits so

@@ -8,6 +8,7 @@ use refusal::Refusal;
 use refusal::Verdict;
 use state::Base;
 use state::Record;
+use window::Window;
 
 fn show(text: &[u8]) {
     streams::write_output(b"vectors", text);
@@ -59,6 +60,7 @@ fn refusals() {
     show_refusal(Refusal::NotGrouped);
     show_refusal(Refusal::RoomTooSmall);
     show_refusal(Refusal::UnknownProfile);
+    show_refusal(Refusal::WindowBounds);
     show_refusal(Refusal::SpBounds);
     show_refusal(Refusal::SpAlignment);
     show_refusal(Refusal::RamOffset);
@@ -293,11 +295,11 @@ fn show_fault(fault: Fault) {
 }
 
 // A word, a halfword or a byte is stored at a RAM offset.
-fn store(ram: &mut [u8], size: Size, offset: u32) {
+fn store(window: Window, ram: &mut [u8], size: Size, offset: u32) {
     show(b"store");
     show_number(endian::width(size) as u64);
     show_number(offset as u64);
-    let stored = memory::store_by(Base::Ram(offset), ram, 0, size, 0x1234_5678);
+    let stored = memory::store_by(Base::Ram(offset), window, ram, 0, size, 0x1234_5678);
     match stored {
         Stored::Done => {
             show(b" done\n");
@@ -322,11 +324,16 @@ fn show_loaded(loaded: Loaded) {
 }
 
 // The same, loaded from RAM with an offset of imm12.
-fn load(ram: &[u8], size: Size, offset: u32, imm12: u16) {
+fn load(window: Window, ram: &[u8], size: Size, offset: u32, imm12: u16) {
     show(b"load");
     show_number(endian::width(size) as u64);
     show_number(offset as u64 + imm12 as u64);
-    show_loaded(memory::load_by(Base::Ram(offset), true, ram, b"", imm12, size));
+    show_loaded(memory::load_by(Base::Ram(offset), true, window, ram, b"", imm12, size));
+}
+
+// An empty window, which nothing but an access to RAM looks at.
+fn no_window() -> Window {
+    Window { start: 0, end: 0 }
 }
 
 // From external data, by r8.
@@ -335,23 +342,54 @@ fn load_external(external: &[u8], size: Size, offset: u32, imm12: u16) {
     show_number(endian::width(size) as u64);
     show_number(offset as u64);
     show_number(imm12 as u64);
-    show_loaded(memory::load_by(Base::External(offset), false, b"", external, imm12, size));
+    show_loaded(memory::load_by(
+        Base::External(offset),
+        false,
+        no_window(),
+        b"",
+        external,
+        imm12,
+        size,
+    ));
 }
 
 fn ram_edges() {
     let mut ram = [0u8; 32768];
-    store(&mut ram, Size::Word, 32764);
-    store(&mut ram, Size::Word, 32765);
-    store(&mut ram, Size::Halfword, 32766);
-    store(&mut ram, Size::Halfword, 32767);
-    store(&mut ram, Size::Byte, 32767);
-    store(&mut ram, Size::Byte, 32768);
-    load(&ram, Size::Word, 32760, 4);
-    load(&ram, Size::Word, 32761, 4);
-    load(&ram, Size::Halfword, 32762, 4);
-    load(&ram, Size::Halfword, 32763, 4);
-    load(&ram, Size::Byte, 32763, 4);
-    load(&ram, Size::Byte, 32764, 4);
+    let whole = window::whole_ram();
+    store(whole, &mut ram, Size::Word, 32764);
+    store(whole, &mut ram, Size::Word, 32765);
+    store(whole, &mut ram, Size::Halfword, 32766);
+    store(whole, &mut ram, Size::Halfword, 32767);
+    store(whole, &mut ram, Size::Byte, 32767);
+    store(whole, &mut ram, Size::Byte, 32768);
+    load(whole, &ram, Size::Word, 32760, 4);
+    load(whole, &ram, Size::Word, 32761, 4);
+    load(whole, &ram, Size::Halfword, 32762, 4);
+    load(whole, &ram, Size::Halfword, 32763, 4);
+    load(whole, &ram, Size::Byte, 32763, 4);
+    load(whole, &ram, Size::Byte, 32764, 4);
+}
+
+// Of a window from 5 to below 8.
+fn window_edges() {
+    let mut ram = [0u8; 32768];
+    let window = Window { start: 5, end: 8 };
+    store(window, &mut ram, Size::Byte, 4);
+    store(window, &mut ram, Size::Byte, 5);
+    store(window, &mut ram, Size::Byte, 7);
+    store(window, &mut ram, Size::Byte, 8);
+    store(window, &mut ram, Size::Halfword, 4);
+    store(window, &mut ram, Size::Halfword, 6);
+    store(window, &mut ram, Size::Halfword, 7);
+    store(window, &mut ram, Size::Word, 5);
+    // past RAM is fault 2, before the window is looked at
+    store(window, &mut ram, Size::Word, 32765);
+    load(window, &ram, Size::Halfword, 4, 0);
+    load(window, &ram, Size::Halfword, 4, 1);
+    load(window, &ram, Size::Halfword, 4, 2);
+    load(window, &ram, Size::Halfword, 4, 3);
+    load(window, &ram, Size::Word, 4, 0);
+    load(window, &ram, Size::Byte, 32764, 4);
 }
 
 fn external_edges() {
@@ -369,9 +407,25 @@ fn external_edges() {
     show_loaded(memory::signed(Size::Byte, Loaded::Value(0x80)));
     // an external base where RAM is needed, and none
     show(b"by r9");
-    show_loaded(memory::load_by(Base::External(0), true, b"", &external, 0, Size::Byte));
+    show_loaded(memory::load_by(
+        Base::External(0),
+        true,
+        no_window(),
+        b"",
+        &external,
+        0,
+        Size::Byte,
+    ));
     show(b"no base");
-    show_loaded(memory::load_by(Base::Nothing, false, b"", &external, 0, Size::Byte));
+    show_loaded(memory::load_by(
+        Base::Nothing,
+        false,
+        no_window(),
+        b"",
+        &external,
+        0,
+        Size::Byte,
+    ));
 }
 
 fn main() {
@@ -384,5 +438,6 @@ fn main() {
     stored_forms();
     not_stored();
     ram_edges();
+    window_edges();
     external_edges();
 }
