@@ -1,12 +1,12 @@
 -- Laws of little-endian access, each over the size.
 use Prim.Native.Nat.{ℕ, zero, suc, _+_, _-_, _*_, _%_, _/_, _^_, _<_, _≤_}
-use mathlib.Core.Path.{_≡_, refl, ap}
+use mathlib.Core.Path.{_≡_, refl, ap, _∙_}
 use mathlib.Core.List.{List, [], _∷_, _++_, append-assoc, append-nil}
 use native.Mathlib.Omega.{arith}
 use native.Mathlib.Nat.{add-zero, le-of-suc-le-suc, pow-succ', pow-le-pow-right}
 use native.Mathlib.Numerals.{add-one}
 use lib.ListN.{length, getD, take, drop, set, length-set}
-use lib.Seq.{take-suc-set, getD-drop}
+use lib.Seq.{take-suc-set, getD-drop, getD-set-other}
 use Rattle.endian.specs.LittleEndian.{widthOf, loadLE, storeLE, bytesOf}
 use Rattle.endian.specs.declared.Size.{Size}
 use Rattle.endian.specs.declared.Size.the-variants.{Byte, Halfword, Word}
@@ -107,3 +107,37 @@ store-take (suc size) bytes at x l =
     let e : at + suc size ≡ at + 1 + size = omega arith in
     let f : take (at + 1) (set bytes at b) ≡ take at bytes ++ (b ∷ []) = rw add-one (take-suc-set bytes at b (omega arith)) in
     rw (e, store-take size (set bytes at b) (at + 1) (x / 256) (omega (arith, length-set bytes at b)), f, append-assoc)
+
+-- ---- bytes in two lists, and beside a store
+
+-- a load reads its own bytes alone
+pub load-agrees : (size : ℕ) (a b : List ℕ) (at : ℕ) → ((k : ℕ) → at ≤ k → k < at + size → getD a k 0 ≡ getD b k 0)
+    → loadLE size a at ≡ loadLE size b at
+load-agrees zero a b at h = refl
+load-agrees (suc size) a b at h =
+    rw (h at (omega arith) (omega arith), load-agrees size a b (at + 1) (λ k l u. h k (omega arith) (omega arith)))
+
+-- a store writes its own bytes alone
+pub store-elsewhere : (size : ℕ) (bytes : List ℕ) (at x k : ℕ) → (at ≤ k → k < at + size → ⊥)
+    → getD (storeLE size bytes at x) k 0 ≡ getD bytes k 0
+store-elsewhere zero bytes at x k h = refl
+store-elsewhere (suc size) bytes at x k h =
+    store-elsewhere size (set bytes at (x % 256)) (at + 1) (x / 256) k (λ l u. h (omega arith) (omega arith))
+    ∙ getD-set-other bytes at k (x % 256) 0 (λ e. h (omega (arith, e)) (omega (arith, e)))
+
+set-agrees : (a b : List ℕ) (i x k : ℕ) → length a ≡ length b → getD a k 0 ≡ getD b k 0 → getD (set a i x) k 0 ≡ getD (set b i x) k 0
+set-agrees [] [] i x k l e = refl
+set-agrees [] (z ∷ b) i x k l e = absurd (omega (arith, l))
+set-agrees (y ∷ a) [] i x k l e = absurd (omega (arith, l))
+set-agrees (y ∷ a) (z ∷ b) zero x zero l e = refl
+set-agrees (y ∷ a) (z ∷ b) zero x (suc k) l e = e
+set-agrees (y ∷ a) (z ∷ b) (suc i) x zero l e = e
+set-agrees (y ∷ a) (z ∷ b) (suc i) x (suc k) l e = set-agrees a b i x k (omega (arith, l)) e
+
+-- one store in two lists of one length keeps a byte equal
+pub store-agrees : (size : ℕ) (a b : List ℕ) (at x k : ℕ) → length a ≡ length b → getD a k 0 ≡ getD b k 0
+    → getD (storeLE size a at x) k 0 ≡ getD (storeLE size b at x) k 0
+store-agrees zero a b at x k l e = e
+store-agrees (suc size) a b at x k l e =
+    store-agrees size (set a at (x % 256)) (set b at (x % 256)) (at + 1) (x / 256) k (rw (length-set a, length-set b) l)
+    (set-agrees a b at (x % 256) k l e)

@@ -1,3 +1,4 @@
 pub mod Theorems
 pub mod Runs
 pub mod GoingOn
+pub mod Alike

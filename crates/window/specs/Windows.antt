@@ -1,8 +1,10 @@
 -- Windows: the part of RAM that a run may read and write.
 use Prim.Native.Nat.{ℕ, _+_, _≤_, _<_}
 use mathlib.Core.Bool.{Bool, not, _&&_}
-use mathlib.Core.List.{[]}
+use mathlib.Core.List.{List, []}
+use mathlib.Core.Path.{_≡_}
 use lib.Dec.{leb}
+use lib.ListN.{length, getD}
 use Rattle.refusal.specs.Refusals.{Rule, rule}
 use Rattle.window.specs.declared.Window.{Window}
 
@@ -26,6 +28,15 @@ windowRule w = rule (not (windowFits w)) 20 []
 unfoldable pub insideWindow : Window → ℕ → ℕ → Bool
 insideWindow w at bytes = leb (w .start) at && leb (at + bytes) (w .end)
 
+-- ---- bytes inside and outside
+
 -- an offset lies inside
 abbrev pub Inside : Window → ℕ → Type 0
 Inside w k = (w .start ≤ k) × (k < w .end)
+
+-- RAMs of one length whose bytes inside are equal, and whose bytes outside are
+abbrev pub EqualInside : Window → List ℕ → List ℕ → Type 0
+EqualInside w a b = (length a ≡ length b) × ((k : ℕ) → Inside w k → getD a k 0 ≡ getD b k 0)
+
+abbrev pub EqualOutside : Window → List ℕ → List ℕ → Type 0
+EqualOutside w a b = (length a ≡ length b) × ((k : ℕ) → (Inside w k → ⊥) → getD a k 0 ≡ getD b k 0)
