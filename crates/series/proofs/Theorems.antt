@@ -80,6 +80,19 @@ module _ (m : Machine) (k : KeepsAdmitted m) where
   pub gave-from : (s : State) (c : m .Call) → From m s c → m .gave c ≡ called m (ownHanded m (m .handed c .budget) (s .rec) (s .ram))
   gave-from s c h = k .meets c ∙ ap (called m) (handed-own m s c h)
 
+  -- another call gives back what it was handed, so what stands stays
+  refused-back : (c : m .Call) (why : Refuses m (m .handed c)) → m .gave c ≡ refusedBy m (why .0) (why .1) (m .handed c)
+  refused-back c why = k .meets c ∙ rw (why .2)
+
+  pub other-stays : (seriesRecord seriesRam : Bool) (c : m .Call) (s : State)
+      → HandedIn (gaveState m) (handedState m) (OwnSetting m) (λ c. Refuses m (m .handed c)) (other seriesRecord seriesRam c) s
+      → leftBy (gaveState m) (other seriesRecord seriesRam c) s ≡ s
+  other-stays seriesRecord seriesRam c s h =
+      let back = refused-back c (h .0) in
+      let rec = stays seriesRecord (s .rec) (m .gave c .rec) (λ t. rw back (h .1 t)) in
+      let ram = stays seriesRam (s .ram) (m .gave c .ram) (λ t. rw back (h .2 t)) in
+      λ i. record { rec = rec i; ram = ram i }
+
   -- a call is as claimed; after it the next isn't refused; the state is the plain machine's; and it gave what the plain machine gives
   record Goes (c : InSeries (m .Call)) (s : State) : Type 0 where
     sound : SoundCall m c
@@ -101,14 +114,12 @@ module _ (m : Machine) (k : KeepsAdmitted m) where
       own-there : {h : Handed (m .Setting)} → h ≡ ownHanded m (h .budget) (s .rec) (s .ram) → OwnCall m h (run m (h .budget) (s .rec) (s .ram))
       own-there {h} e = subst (λ (g : Handed (m .Setting)). OwnCall m g (run m (h .budget) (s .rec) (s .ram))) (sym e) (own-sound (h .budget) (s .rec) (s .ram) a)
   goes (other seriesRecord seriesRam c) s a h =
-      let back : m .gave c ≡ refusedBy m (h .0 .0) (h .0 .1) (m .handed c) = k .meets c ∙ rw (h .0 .2) in
-      let stillRecord = stays seriesRecord (s .rec) (m .gave c .rec) (λ t. rw back (h .1 t)) in
-      let stillRam = stays seriesRam (s .ram) (m .gave c .ram) (λ t. rw back (h .2 t)) in
+      let still = other-stays seriesRecord seriesRam c s h in
       record {
-        sound = record { refuses = h .0; gives = back };
-        admits = rw (stillRecord, stillRam) a;
+        sound = record { refuses = h .0; gives = refused-back c (h .0) };
+        admits = subst (λ (t : State). Admits m (t .rec) (t .ram)) (sym still) a;
         gives = k .meets c;
-        leaves = rw (stillRecord, stillRam);
+        leaves = still;
       }
 
   pub demand3 : (cs : List (InSeries (m .Call))) (s : State) → Admits m (s .rec) (s .ram) → Series m cs s → Demand3 m cs s

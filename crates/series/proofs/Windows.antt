@@ -1,0 +1,198 @@
+-- Calls keep to their window, over any machine whose instructions do.
+use Prim.Native.Nat.{ℕ}
+use native.Mathlib.Omega.{arith}
+use mathlib.Core.Bool.{Bool, true, false}
+use mathlib.Core.List.{List, [], _∷_, map}
+use mathlib.Core.Path.{_≡_, refl, sym, ap, subst, _∙_}
+use lib.ListN.{length, getD, drop}
+use Rattle.window.specs.Windows.{EqualInside, EqualOutside}
+use Rattle.window.specs.declared.Window.{Window}
+use Rattle.refusal.specs.Refusals.{Decision, accepted, refused}
+use Rattle.state.specs.declared.Record.{Record}
+use Rattle.plain.specs.PlainMachine.{Effect, goesOn, exits, faults, unlisted, Result, plain}
+use Rattle.plain.specs.Calls.{callBy}
+use Rattle.plain.specs.EqualBut.{EqualBut}
+use Rattle.plain.proofs.Runs.{Leaves, run-keeps}
+use Rattle.plain.proofs.Alike.{EffectsAlike, RunsAlike, equal, outside, runs-alike}
+use Rattle.series.specs.HandedOn.{Standing, InSeries, own, other, leftBy, leftByAll, HandedOn}
+use Rattle.series.specs.Machine.{Handed, Machine, Refuses, called}
+use Rattle.series.specs.Series.{State, handedState, gaveState, OwnSetting, Series}
+use Rattle.series.specs.Windows.{ramAlone, handedRam, gaveRam, windowOn, EqualAll, ownWindow, EqualStates, InTurn, leftInTurn, budgetsOf, ownCalls, KeepsToWindow}
+use Rattle.series.proofs.Keeps.{KeepsAdmitted}
+use Rattle.series.proofs.Theorems.{other-stays}
+
+-- ---- equality inside and outside
+
+inside-refl : (w : Window) (a : List ℕ) → EqualInside w a a
+inside-refl w a = (refl, λ k i. refl)
+
+inside-sym : (w : Window) (a b : List ℕ) → EqualInside w a b → EqualInside w b a
+inside-sym w a b e = (sym (e .0), λ k i. sym (e .1 k i))
+
+inside-trans : (w : Window) (a b c : List ℕ) → EqualInside w a b → EqualInside w b c → EqualInside w a c
+inside-trans w a b c e f = (e .0 ∙ f .0, λ k i. e .1 k i ∙ f .1 k i)
+
+outside-refl : (w : Window) (a : List ℕ) → EqualOutside w a a
+outside-refl w a = (refl, λ k o. refl)
+
+outside-trans : (w : Window) (a b c : List ℕ) → EqualOutside w a b → EqualOutside w b c → EqualOutside w a c
+outside-trans w a b c e f = (e .0 ∙ f .0, λ k o. e .1 k o ∙ f .1 k o)
+
+-- ---- what is asked of a machine
+
+pub record WithinWindow (m : Machine) : Type 0 where
+  -- in RAMs that are equal inside the window an instruction has the same effect
+  pub reads-inside : (setting : m .Setting) (r : Record) (a b : List ℕ) → EqualInside (m .window setting) a b
+      → EffectsAlike (m .window setting) (m .window setting) (EqualInside (m .window setting)) (m .instruction setting r a) (m .instruction setting r b)
+  -- and it leaves the bytes outside
+  pub writes-inside : (setting : m .Setting) (r : Record) (ram : List ℕ)
+      → Leaves (λ s after. EqualOutside (m .window setting) ram after) (m .instruction setting r ram)
+  -- refusals don't look at RAM's bytes
+  pub refuses-by-length : (setting : m .Setting) (r : Record) (a b : List ℕ) → length a ≡ length b → m .decision setting r a ≡ m .decision setting r b
+
+-- ---- RAM in a row of calls
+
+module _ {Form Call : Type 0} (gave handed : Call → Standing Form) (OwnSetting Refused : Call → Type 0) (w : Window)
+    (own-keeps : (c : Call) → OwnSetting c → EqualOutside w (handed c .ram) (gave c .ram))
+    (other-keeps : (c : Call) → Refused c → gave c .ram ≡ handed c .ram) where
+  pub rams-stay : (cs : List (InSeries Call)) (s : Standing Form) → HandedOn gave handed OwnSetting Refused cs s
+      → EqualOutside w (s .ram) (leftByAll gave cs s .ram)
+  rams-stay [] s h = outside-refl w (s .ram)
+  rams-stay (own c ∷ cs) s h =
+      outside-trans w (s .ram) (gave c .ram) (leftByAll gave cs (gave c) .ram)
+      (subst (λ (x : Standing Form). EqualOutside w (x .ram) (gave c .ram)) (h .0 .1) (own-keeps c (h .0 .0)))
+      (rams-stay cs (gave c) (h .1))
+  rams-stay (other seriesRecord seriesRam c ∷ cs) s h =
+      outside-trans w (s .ram) (leftBy gave (other seriesRecord seriesRam c) s .ram)
+      (leftByAll gave cs (leftBy gave (other seriesRecord seriesRam c) s) .ram)
+      (go seriesRam (h .0 .2)) (rams-stay cs (leftBy gave (other seriesRecord seriesRam c) s) (h .1))
+    where
+      go : (seriesRam : Bool) → (seriesRam ≡ true → handed c .ram ≡ s .ram)
+          → EqualOutside w (s .ram) (leftBy gave (other seriesRecord seriesRam c) s .ram)
+      go true e = rw (other-keeps c (h .0 .0), e refl) (outside-refl w (s .ram))
+      go false e = outside-refl w (s .ram)
+
+module _ (m : Machine) (inside : WithinWindow m) (meets : (c : m .Call) → m .gave c ≡ called m (m .handed c)) where
+  -- ---- one call leaves the bytes outside its window
+
+  leaves-outside : (w : Window) (first ram : List ℕ) (e : Effect) → EqualOutside w first ram
+      → Leaves (λ s after. EqualOutside w ram after) e → Leaves (λ s after. EqualOutside w first after) e
+  leaves-outside w first ram (goesOn r after) o l = outside-trans w first ram after o l
+  leaves-outside w first ram (exits x r after) o l = outside-trans w first ram after o l
+  leaves-outside w first ram (faults f) o l = tt
+  leaves-outside w first ram unlisted o l = tt
+
+  called-outside : (h : Handed (m .Setting)) → EqualOutside (m .window (h .setting)) (h .ram) (called m h .ram)
+  called-outside h = go (m .decision (h .setting) (h .rec) (h .ram))
+    where
+      w : Window
+      w = m .window (h .setting)
+
+      go : (d : Decision) → EqualOutside w (h .ram) (callBy d (m .instruction (h .setting)) (h .budget) (h .rec) (h .ram) .ram)
+      go accepted =
+          run-keeps (m .instruction (h .setting)) (λ s after. EqualOutside w (h .ram) after)
+          (λ s after o. leaves-outside w (h .ram) after (m .instruction (h .setting) s after) o (inside .writes-inside (h .setting) s after))
+          (h .budget) 0 (h .rec) (h .ram) (outside-refl w (h .ram))
+      go (refused n values) = outside-refl w (h .ram)
+
+  pub call-outside : (c : m .Call) → EqualOutside (windowOn m c) (m .handed c .ram) (m .gave c .ram)
+  call-outside c = rw (meets c) (called-outside (m .handed c))
+
+  refused-ram : (c : m .Call) → Refuses m (m .handed c) → m .gave c .ram ≡ m .handed c .ram
+  refused-ram c why = ap (λ (x : Result). x .ram) (meets c) ∙ rw (why .2)
+
+  -- ---- two calls
+
+  called-equal : (setting : m .Setting) (total : ℕ) (r : Record) (a b : List ℕ) → EqualInside (m .window setting) a b
+      → EqualBut (EqualInside (m .window setting)) (called m (record { setting = setting; budget = total; rec = r; ram = a }))
+      (called m (record { setting = setting; budget = total; rec = r; ram = b }))
+  called-equal setting total r a b e = rw (inside .refuses-by-length setting r a b (e .0)) (go (m .decision setting r b))
+    where
+      w : Window
+      w = m .window setting
+
+      run : List ℕ → Result
+      run ram = plain (m .instruction setting) total 0 r ram
+
+      ran : RunsAlike w w (EqualInside w) (run a) (run b) → EqualBut (EqualInside w) (run a) (run b)
+      ran (equal not-seven x) = x
+      ran (outside at bytes i j seven x) = x j
+
+      go : (d : Decision) → EqualBut (EqualInside w) (callBy d (m .instruction setting) total r a) (callBy d (m .instruction setting) total r b)
+      go accepted =
+          ran (runs-alike w w (EqualInside w) (m .instruction setting) (m .instruction setting) (inside .reads-inside setting) total 0 r a b e)
+      go (refused n values) = record { stop = refl; steps = refl; rec = refl; ram = e }
+
+  calls-equal : (c d : m .Call) → m .handed c .setting ≡ m .handed d .setting → m .handed c .budget ≡ m .handed d .budget
+      → m .handed c .rec ≡ m .handed d .rec → EqualInside (windowOn m c) (m .handed c .ram) (m .handed d .ram)
+      → EqualBut (EqualInside (windowOn m c)) (m .gave c) (m .gave d)
+  calls-equal c d setting budget rec ram =
+      rw (meets c, meets d, ← setting, ← budget, ← rec)
+      (called-equal (m .handed c .setting) (m .handed c .budget) (m .handed c .rec) (m .handed c .ram) (m .handed d .ram) ram)
+
+  -- ---- calls in turn, and series
+
+  first-equal : (x y : ℕ) (xs ys : List ℕ) → x ∷ xs ≡ y ∷ ys → (x ≡ y) × (xs ≡ ys)
+  first-equal x y xs ys e = (ap (λ l. getD l 0 0) e, ap (drop 1) e)
+
+  turns-equal : (cs ds : List (m .Call)) (s t : State) → InTurn m cs s → InTurn m ds t → EqualStates m s t → budgetsOf m cs ≡ budgetsOf m ds
+      → EqualAll (ownWindow m) (map (m .gave) cs) (map (m .gave) ds) × EqualStates m (leftInTurn m cs s) (leftInTurn m ds t)
+  turns-equal [] [] s t g h e b = (tt, e)
+  turns-equal [] (d ∷ ds) s t g h e b = absurd (omega (arith, ap length b))
+  turns-equal (c ∷ cs) [] s t g h e b = absurd (omega (arith, ap length b))
+  turns-equal (c ∷ cs) (d ∷ ds) s t g h e b =
+      let budgets = first-equal _ _ (budgetsOf m cs) (budgetsOf m ds) b in
+      let rest = turns-equal cs ds (gaveState m c) (gaveState m d) (g .2) (h .2) (one .rec, one .ram) (budgets .1) in
+      ((one, rest .0), rest .1)
+    where
+      own-window : windowOn m c ≡ ownWindow m
+      own-window = ap (m .window) (g .0)
+
+      handed : EqualInside (ownWindow m) (m .handed c .ram) (m .handed d .ram)
+      handed =
+          inside-trans (ownWindow m) (m .handed c .ram) (s .ram) (m .handed d .ram) (g .1 .1)
+          (inside-trans (ownWindow m) (s .ram) (t .ram) (m .handed d .ram) (e .1) (inside-sym (ownWindow m) (m .handed d .ram) (t .ram) (h .1 .1)))
+
+      one : EqualBut (EqualInside (ownWindow m)) (m .gave c) (m .gave d)
+      one =
+          subst (λ w. EqualBut (EqualInside w) (m .gave c) (m .gave d)) own-window
+          (calls-equal c d (g .0 ∙ sym (h .0)) (first-equal _ _ (budgetsOf m cs) (budgetsOf m ds) b .0) (g .1 .0 ∙ e .0 ∙ sym (h .1 .0))
+          (subst (λ w. EqualInside w (m .handed c .ram) (m .handed d .ram)) (sym own-window) handed))
+
+module _ (m : Machine) (inside : WithinWindow m) (k : KeepsAdmitted m) where
+  -- the own calls of a series are calls in turn, and leave what it leaves
+  own-turns : (cs : List (InSeries (m .Call))) (s : State) → Series m cs s
+      → InTurn m (ownCalls m cs) s × (leftByAll (gaveState m) cs s ≡ leftInTurn m (ownCalls m cs) s)
+  own-turns [] s h = (tt, refl)
+  own-turns (own c ∷ cs) s h =
+      let rest = own-turns cs (gaveState m c) (h .1) in
+      let handed : EqualStates m (handedState m c) s = rw (h .0 .1) (refl, inside-refl (ownWindow m) (s .ram)) in
+      ((h .0 .0, handed, rest .0), rest .1)
+  own-turns (other seriesRecord seriesRam c ∷ cs) s h =
+      let still = other-stays m k seriesRecord seriesRam c s (h .0) in
+      let rest = own-turns cs s (subst (Series m cs) still (h .1)) in
+      (rest .0, ap (leftByAll (gaveState m) cs) still ∙ rest .1)
+
+  series-equal : (cs ds : List (InSeries (m .Call))) (s t : State) → Series m cs s → Series m ds t → EqualStates m s t
+      → budgetsOf m (ownCalls m cs) ≡ budgetsOf m (ownCalls m ds)
+      → EqualAll (ownWindow m) (map (m .gave) (ownCalls m cs)) (map (m .gave) (ownCalls m ds))
+      × EqualStates m (leftByAll (gaveState m) cs s) (leftByAll (gaveState m) ds t)
+  series-equal cs ds s t g h e b =
+      let one = own-turns cs s g in
+      let two = own-turns ds t h in
+      rw (one .1, two .1) (turns-equal m inside (k .meets) (ownCalls m cs) (ownCalls m ds) s t (one .0) (two .0) e b)
+
+  pub keeps-to-window : KeepsToWindow m
+  keeps-to-window = record {
+    outside-stays = λ w cs ram h.
+        rams-stay (gaveRam m) (handedRam m) (λ c. windowOn m c ≡ w) (λ c. Refuses m (m .handed c)) w
+        (λ c e. subst (λ x. EqualOutside x (m .handed c .ram) (m .gave c .ram)) e (call-outside m inside (k .meets) c))
+        (refused-ram m inside (k .meets)) cs (ramAlone ram) h;
+    series-stays = λ cs s h.
+        rams-stay (gaveState m) (handedState m) (OwnSetting m) (λ c. Refuses m (m .handed c)) (ownWindow m)
+        (λ c e. subst (λ x. EqualOutside x (m .handed c .ram) (m .gave c .ram)) (ap (m .window) e) (call-outside m inside (k .meets) c))
+        (refused-ram m inside (k .meets)) cs s h;
+    equal-calls = calls-equal m inside (k .meets);
+    equal-in-turn = turns-equal m inside (k .meets);
+    equal-series = series-equal;
+  }
