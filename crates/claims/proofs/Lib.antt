@@ -7,3 +7,6 @@ pub mod Cuts
 pub mod Examples
 pub mod EmptySet
 pub mod SmallProfile
+pub mod Windows
+pub mod WholeWindow
+pub mod WindowEdges

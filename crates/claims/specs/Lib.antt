@@ -5,3 +5,5 @@ pub mod Demand3
 pub mod Cuts
 pub mod EmptySet
 pub mod SmallProfile
+pub mod WholeWindow
+pub mod WindowEdges
