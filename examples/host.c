@@ -222,6 +222,7 @@ int main(int count, char **words)
     put_pairs(external);
     h.setting = mb_setting_of(mb_program_of(page, read_page(words[1], page)), external, sizeof external);
     h.setting.program.never_return = mb_syscall_bit(ABORT);
+    h.setting.window_end = 0; /* the filter needs no RAM: what the host keeps there is safe from it */
     require(mb_count(&h.setting.program, &counted), 0);
     printf("count %u of %u bundles\n", counted, (unsigned)(h.setting.program.page_length / MB_BUNDLE_BYTES));
     h.record = mb_fresh();

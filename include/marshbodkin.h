@@ -39,12 +39,12 @@
  * it against mb_version() before any other call: the archive of another version
  * takes other arguments, and the linker doesn't see it.
  *
- * A host of 0.5 is compiled anew, for the version's sake alone: nothing is gone or
- * takes other arguments, so its text stays. New are mb_pack and mb_unpack, with the
- * refusals 9 and 10, which no other call answers. Where mb_unpack comes into use, 0
- * as an mb_refused's position may tell a field: with 7 it is r0, from mb_unpack alone. */
+ * A host of 0.6 is compiled anew: mb_setting has two fields more, the window's. Its
+ * initialiser sets them to all of RAM, so the host's text stays; but one that calls
+ * mb_raw_run or mb_raw_step itself gives two numbers more. New are refusal 20 and
+ * fault 7, which are met only where the host sets the window. */
 #define MB_VERSION_MAJOR 0
-#define MB_VERSION_MINOR 6
+#define MB_VERSION_MINOR 7
 #define MB_VERSION_PATCH 0
 #define MB_VERSION (65536u * MB_VERSION_MAJOR + 256u * MB_VERSION_MINOR + MB_VERSION_PATCH)
 
@@ -84,13 +84,14 @@ enum {
     MB_REFUSED_NOT_GROUPED = 9,        /* of a short form */
     MB_REFUSED_ROOM_TOO_SMALL = 10,    /* for what is to be written */
     MB_REFUSED_UNKNOWN_PROFILE = 18,
+    MB_REFUSED_WINDOW_BOUNDS = 20,     /* starts above its end or ends above 32768 */
     MB_REFUSED_SP_BOUNDS = 41,         /* below 0x10000 or above 0x18000 */
     MB_REFUSED_SP_ALIGNMENT = 42,      /* no multiple of 4 */
     MB_REFUSED_RAM_OFFSET = 43,        /* 2^20 or more */
     MB_REFUSED_EXTERNAL_OFFSET = 44,   /* not below the external data's length */
     /* The library's own, of a step and a run: a base kind above 2 (at position
      * MB_AT_BASE_KIND), or an offset with MB_BASE_NONE (at MB_AT_BASE_OFFSET). It
-     * stands after 18, 1, 2 and 3, before 41. */
+     * stands after 18, 1, 2, 3 and 20, before 41. */
     MB_REFUSED_NO_RECORD = 255
 };
 
@@ -129,14 +130,15 @@ enum {
     MB_STOP_REFUSED = 5             /* value: what the call answers; position with 255 */
 };
 
-/* 01's faults. */
+/* Faults: 01's, and that of a window. */
 enum {
     MB_FAULT_NO_BASE = 1,           /* or external base where RAM is needed */
     MB_FAULT_PAST_RAM = 2,
     MB_FAULT_OFF_EXTERNAL_PAGE = 3,
     MB_FAULT_PAST_STACK = 4,        /* stack access past 0x18000 */
     MB_FAULT_LOW_STACK = 5,         /* SP below 0x10000 */
-    MB_FAULT_PAST_PAGE = 6          /* literal load past the page */
+    MB_FAULT_PAST_PAGE = 6,         /* literal load past the page */
+    MB_FAULT_OUTSIDE_WINDOW = 7     /* access to RAM outside the window */
 };
 
 /* What a service exit asks of the host, and the parts that say more of it. */
@@ -159,9 +161,10 @@ enum {
 /* ---- The proved calls
  *
  * The archive's functions as they are proved, over bytes and numbers, with a
- * record as the 44 bytes of docs/MACHINE.md's stored form, and never_return and
- * profile as mb_program has them. No pointer may be null, not even where the
- * length is 0. A host uses the calls further below, which are over these. */
+ * record as the 44 bytes of docs/MACHINE.md's stored form, never_return and
+ * profile as mb_program has them, and the window as mb_setting has it. No pointer
+ * may be null, not even where the length is 0. A host uses the calls further below,
+ * which are over these. */
 
 uint32_t mb_raw_version(void);
 
@@ -202,6 +205,7 @@ uint32_t mb_raw_unpack(const uint8_t *packed, size_t packed_length,
 uint32_t mb_raw_run(const uint8_t *page, size_t page_length, uint64_t never_return,
                     uint32_t profile, uint8_t *ram, size_t ram_length,
                     const uint8_t *external, size_t external_length,
+                    uint32_t window_start, uint32_t window_end,
                     uint8_t *record, size_t record_length, uint32_t budget,
                     uint32_t *kind, uint32_t *value, uint32_t *literal,
                     uint32_t *position, uint32_t *steps);
@@ -209,6 +213,7 @@ uint32_t mb_raw_run(const uint8_t *page, size_t page_length, uint64_t never_retu
 uint32_t mb_raw_step(const uint8_t *page, size_t page_length, uint64_t never_return,
                      uint32_t profile, uint8_t *ram, size_t ram_length,
                      const uint8_t *external, size_t external_length,
+                     uint32_t window_start, uint32_t window_end,
                      uint8_t *record, size_t record_length,
                      uint32_t *kind, uint32_t *value, uint32_t *literal,
                      uint32_t *position, uint32_t *steps);
@@ -219,8 +224,8 @@ void mb_raw_exit(uint32_t low, uint32_t literal,
 
 /* ---- What a host keeps
  *
- * Fields will be added, as a window of RAM. So make these by their initialisers,
- * never field by field: what those give then means what it means now. */
+ * Fields will be added. So make these by their initialisers, never field by field:
+ * what those give then means what it means now. */
 
 /* A filter. By mb_program_of, after which the host may set never_return and
  * profile: before mb_setting_of, which copies the program, or in the setting's own
@@ -238,11 +243,19 @@ typedef struct {
     uint32_t profile;
 } mb_program;
 
-/* What a filter runs on, RAM aside. By mb_setting_of. */
+/* What a filter runs on, RAM aside. By mb_setting_of, after which the host may set the
+ * window. */
 typedef struct {
     mb_program program;
     const uint8_t *external;
     size_t external_length;
+    /* The window: the RAM offsets that the filter may use, from the start to below the
+     * end. 0 and MB_RAM_BYTES as initialised; an empty one is allowed. An access to RAM
+     * that isn't wholly inside is MB_FAULT_OUTSIDE_WINDOW; SP itself isn't held to it.
+     * A run neither reads nor writes RAM outside its window: those bytes stay, and runs
+     * whose RAMs agree inside are equal in stop, steps, record and the window's bytes.
+     * So filters whose windows don't overlap may share one RAM, one after the other. */
+    uint32_t window_start, window_end;
 } mb_setting;
 
 /* The base of a record, and what validation gives. */
@@ -373,6 +386,8 @@ static inline mb_setting mb_setting_of(mb_program program, const uint8_t *extern
     setting.program = program;
     setting.external = external;
     setting.external_length = external_length;
+    setting.window_start = 0;
+    setting.window_end = MB_RAM_BYTES;
     return setting;
 }
 
@@ -497,7 +512,7 @@ static inline uint32_t mb_unpack(const uint8_t *packed, size_t packed_length, ui
     return mb_internal_said(answer, position, refused);
 }
 
-/* Runs a record with a budget of steps. Refused (18, 1, 2, 3, 255, 41, 42, 43, 44, 5):
+/* Runs a record with a budget of steps. Refused (18, 1, 2, 3, 20, 255, 41, 42, 43, 44, 5):
  * 0 steps. After MB_STOP_BUDGET call again with record and RAM as they came back: such
  * slices end as one run with the sum of their budgets, at most 4,294,967,295, would, and
  * their steps add up. */
@@ -512,7 +527,8 @@ static inline uint32_t mb_run(const mb_setting *setting, uint8_t *ram, size_t ra
                         program->never_return, program->profile,
                         mb_internal_written(ram, ram_length, &own[1]), ram_length,
                         mb_internal_read(setting->external, setting->external_length, &own[2]),
-                        setting->external_length, bytes, sizeof bytes, budget,
+                        setting->external_length, setting->window_start, setting->window_end,
+                        bytes, sizeof bytes, budget,
                         &stopped->kind, &stopped->value, &stopped->literal, &stopped->position, &stopped->steps);
     mb_internal_from_bytes(bytes, record);
     return answer;
@@ -557,6 +573,7 @@ static inline const char *mb_refusal_words(uint32_t number)
     case MB_REFUSED_NOT_GROUPED: return "short form is not in shortest groups, is cut off or is followed by bytes";
     case MB_REFUSED_ROOM_TOO_SMALL: return "room for the written form is too small";
     case MB_REFUSED_UNKNOWN_PROFILE: return "unknown profile";
+    case MB_REFUSED_WINDOW_BOUNDS: return "window starts above its end or ends above 32768";
     case MB_REFUSED_SP_BOUNDS: return "SP is below 0x10000 or above 0x18000";
     case MB_REFUSED_SP_ALIGNMENT: return "SP is no multiple of 4";
     case MB_REFUSED_RAM_OFFSET: return "RAM offset is not below 2^20";
@@ -597,6 +614,7 @@ static inline const char *mb_fault_words(uint32_t number)
     case MB_FAULT_PAST_STACK: return "stack access past 0x18000";
     case MB_FAULT_LOW_STACK: return "SP below 0x10000";
     case MB_FAULT_PAST_PAGE: return "literal load past the page";
+    case MB_FAULT_OUTSIDE_WINDOW: return "access to RAM outside the window";
     default: return "unknown";
     }
 }

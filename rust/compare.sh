@@ -37,6 +37,11 @@ for name in lt-from-n first-successor count-one-less base-one-off place-128 imm1
     small-with-cbnz small-with-movw full-behind-terminator profile-after-length profile-2-small \
     count-without-profile run-without-profile alignment-before-bounds external-by-most place-before-external \
     last-failing-field position-in-fields none-offset-at-kind no-record-at-sp no-record-at-last \
+    window-end-inside window-start-late window-by-length window-first-byte window-last-byte \
+    window-before-ram window-before-stack window-before-base \
+    load-outside-window store-outside-window stack-outside-window store-byte-by-byte \
+    external-in-window sp-in-window \
+    window-before-external window-after-no-record window-after-sp empty-window-refused window-end-cut \
     groups-of-eight highest-group-first padded-group five-groups-refused six-groups \
     offset-with-none unknown-without-offset sp-as-it-stands sp-one-below bytes-behind \
     range-before-groups last-number position-in-numbers \

@@ -100,6 +100,9 @@ found held_header "$header" 's/uint32_t \*position, uint32_t \*steps/uint32_t *s
 found held_header "$header" 's/size_t room_length, uint32_t \*position/size_t room_length/'
 found held_header "$header" 's/size_t \*length/uint32_t *length/'
 found held_header "$header" 's/size_t \*length, uint32_t \*position/uint32_t *position, size_t *length/'
+found held_header "$header" 's/uint32_t window_start, uint32_t window_end/uint32_t window_end, uint32_t window_start/'
+found held_header "$header" 's/uint32_t window_start, uint32_t window_end,//'
+found held_header "$header" 's/uint32_t window_end/uint64_t window_end/'
 found held_header "$header" '/mb_raw_version/d'
 found held_declarations "$declarations" 's/page: \*const u8/page: *mut u8/'
 found held_declarations "$declarations" 's/value: \*mut u32/values: *mut u32/; s/literal: \*mut u32/value: *mut u32/; s/values: \*mut u32/literal: *mut u32/'
@@ -111,4 +114,7 @@ found held_declarations "$declarations" 's/page_length: usize/page_length: u32/'
 found held_declarations "$declarations" '/mb_raw_run/,/-> u32/{ s/position: /positions: /; s/steps: /position: /; s/positions: /steps: /; }'
 found held_declarations "$declarations" '/mb_raw_load/,/-> u32/{ /position: /d; }'
 found held_declarations "$declarations" 's/ length: \*mut usize/ length: *mut u32/'
-echo "header.sh: $(wc -l <"$scratch/exported") declarations held to the source in C and in Rust; twenty-four wrong ones found"
+found held_declarations "$declarations" 's/window_start: u32/window: u32/; s/window_end: u32/window_start: u32/; s/window: u32/window_end: u32/'
+found held_declarations "$declarations" '/mb_raw_step/,/-> u32/{ /window_start: /d; }'
+found held_declarations "$declarations" 's/window_end: u32/window_end: u64/'
+echo "header.sh: $(wc -l <"$scratch/exported") declarations held to the source in C and in Rust; thirty wrong ones found"

@@ -28,6 +28,15 @@ static size_t page_length, ram_length, external_length, room_length, packed_leng
 static uint64_t never_return, never_return_at_first;
 static uint32_t profile, profile_at_first;
 
+/* The window of RAM. */
+static uint32_t window_start, window_end;
+
+static void set_window(uint32_t start, uint32_t end)
+{
+    window_start = start;
+    window_end = end;
+}
+
 #define BIT(n) (UINT64_C(1) << (n))
 #define ALL UINT64_MAX
 
@@ -59,7 +68,13 @@ static mb_program program(void)
     return of;
 }
 
-static mb_setting setting(void) { return mb_setting_of(program(), lent.external, external_length); }
+static mb_setting setting(void)
+{
+    mb_setting on = mb_setting_of(program(), lent.external, external_length);
+    on.window_start = window_start;
+    on.window_end = window_end;
+    return on;
+}
 
 static void set_base(uint8_t kind, uint32_t offset)
 {
@@ -82,7 +97,7 @@ static mb_record fresh_by_hand(void)
     return fresh;
 }
 
-/* An accepted beginning: 01's printed page, a filled RAM, no external data, the fresh record. */
+/* An accepted beginning: 01's printed page, a filled RAM, all of it the window, no external data, the fresh record. */
 static void begin(void)
 {
     memset(&lent, 0x5A, sizeof lent);
@@ -97,6 +112,7 @@ static void begin(void)
     packed_length = MB_SHORT_MOST;
     never_return = never_return_at_first;
     profile = profile_at_first;
+    set_window(0, MB_RAM_BYTES);
     record = fresh_by_hand();
 }
 
@@ -131,7 +147,7 @@ static struct answer raw_run(uint8_t *bytes, size_t length)
     struct answer a = {STALE, stale_stop};
     mb_stopped *s = &a.stopped;
     a.code = mb_raw_run(lent.page, page_length, never_return, profile, lent.ram, ram_length, lent.external, external_length,
-                        bytes, length, 10, &s->kind, &s->value, &s->literal, &s->position, &s->steps);
+                        window_start, window_end, bytes, length, 10, &s->kind, &s->value, &s->literal, &s->position, &s->steps);
     return a;
 }
 
@@ -140,7 +156,7 @@ static struct answer raw_step(uint8_t *bytes, size_t length)
     struct answer a = {STALE, stale_stop};
     mb_stopped *s = &a.stopped;
     a.code = mb_raw_step(lent.page, page_length, never_return, profile, lent.ram, ram_length, lent.external, external_length,
-                         bytes, length, &s->kind, &s->value, &s->literal, &s->position, &s->steps);
+                         window_start, window_end, bytes, length, &s->kind, &s->value, &s->literal, &s->position, &s->steps);
     return a;
 }
 
@@ -353,6 +369,8 @@ static void initialisers(void)
     CHECK(on.program.profile, MB_PROFILE_FULL);
     CHECK(on.external == lent.external, true);
     CHECK(on.external_length == external_length, true);
+    CHECK(on.window_start, 0);
+    CHECK(on.window_end, 32768);
 }
 
 /* ---- count and reader */
@@ -1030,7 +1048,9 @@ static void raw_flags(void)
     keep();
     check_raw_store(__LINE__, bytes, sizeof bytes, MB_REFUSED_FORM_RANGE, MB_AT_FLAGS);
     BYTES_REFUSED(bytes, sizeof bytes, MB_REFUSED_NO_RECORD, MB_AT_FLAGS);
-    external_length = 1; /* 3 before 255 */
+    set_window(1, 0); /* 20 before 255 */
+    BYTES_REFUSED(bytes, sizeof bytes, MB_REFUSED_WINDOW_BOUNDS, 0);
+    external_length = 1; /* and 3 before 20 */
     BYTES_REFUSED(bytes, sizeof bytes, MB_REFUSED_EXTERNAL_LENGTH, 0);
 }
 
@@ -1297,7 +1317,7 @@ static void refused_places(void)
     REFUSED(MB_REFUSED_UNFIT_PLACE);
 }
 
-/* Everything wrong at first, and then mended part by part: 18, 1 to 3, 255, 41 to 44, 5. */
+/* Everything wrong at first, and then mended part by part: 18, 1 to 3, 20, 255, 41 to 44, 5. */
 static void order(void)
 {
     begin();
@@ -1305,6 +1325,7 @@ static void order(void)
     page_length = 3;
     ram_length = 1;
     external_length = 1;
+    set_window(UINT32_MAX, MB_RAM_BYTES + 1);
     record.sp = 0xFFFE;
     record.place = 128;
     set_base(3, 1);
@@ -1316,6 +1337,12 @@ static void order(void)
     ram_length = MB_RAM_BYTES;
     REFUSED(MB_REFUSED_EXTERNAL_LENGTH);
     external_length = 0;
+    REFUSED(MB_REFUSED_WINDOW_BOUNDS);
+    window_start = 1; /* the end is still past RAM */
+    REFUSED(MB_REFUSED_WINDOW_BOUNDS);
+    window_end = 0; /* below the start */
+    REFUSED(MB_REFUSED_WINDOW_BOUNDS);
+    window_end = 1; /* an empty window will do */
     REFUSED_AT(MB_REFUSED_NO_RECORD, MB_AT_BASE_KIND);
     record.base.kind = MB_BASE_NONE;
     REFUSED_AT(MB_REFUSED_NO_RECORD, MB_AT_BASE_OFFSET);
@@ -1580,6 +1607,195 @@ static void unknown_profiles_of_bytes(void)
     }
 }
 
+/* ---- windows of RAM */
+
+typedef struct { uint32_t start, end; } window;
+
+/* They start above their end, end past RAM, or both. */
+static const window wrong_windows[] = {
+    {1, 0}, {MB_RAM_BYTES, MB_RAM_BYTES - 1}, {UINT32_MAX, MB_RAM_BYTES}, {0, MB_RAM_BYTES + 1}, {0, UINT32_MAX},
+    {0x10000, 0x10004}, {MB_RAM_BYTES + 1, MB_RAM_BYTES + 1}, {UINT32_MAX, MB_RAM_BYTES + 1},
+};
+
+enum { WRONG_WINDOWS = sizeof wrong_windows / sizeof wrong_windows[0] };
+
+static void check_wrong_windows(int line, uint32_t code)
+{
+    for (size_t i = 0; i < WRONG_WINDOWS; i++) {
+        set_window(wrong_windows[i].start, wrong_windows[i].end);
+        check_refused(line, code, 0);
+    }
+}
+
+/* 20 where there is no other refusal, before those of the record and its place, and after those of the lengths. */
+static void refused_windows(void)
+{
+    begin();
+    check_wrong_windows(__LINE__, MB_REFUSED_WINDOW_BOUNDS);
+    for (size_t which = 0; which < SPOILS; which++) {
+        uint32_t other;
+        begin();
+        other = spoil(which);
+        check_wrong_windows(__LINE__, other == MB_REFUSED_UNFIT_PLACE ? MB_REFUSED_WINDOW_BOUNDS : other);
+    }
+    for (size_t which = 0; which < DAMAGES; which++) {
+        begin();
+        put_damage(damages[which]);
+        check_wrong_windows(__LINE__, MB_REFUSED_WINDOW_BOUNDS);
+    }
+}
+
+/* Empty ones, and those in which no word fits: a page that accesses no RAM runs there, and SP may be outside. */
+static void small_windows(void)
+{
+    const window windows[] = {{0, 0}, {5, 5}, {32768, 32768}, {32767, 32768}, {0, 1}, {7, 9}, {8, 11}};
+    for (size_t i = 0; i < sizeof windows / sizeof windows[0]; i++) {
+        begin();
+        set_window(windows[i].start, windows[i].end);
+        STOPS(run(100000), MB_STOP_SERVICE, 0, 0, 4);
+        PAGE(0xDFC1, 0xA901, 0x4A00, 0xDF00, 0x1234, 0x5678); /* SP down by a word, a sum with SP, a load from the page */
+        record = fresh_by_hand();
+        STOPS(run(100000), MB_STOP_SERVICE, 0, 0, 4);
+        CHECK(record.sp, 0x17FFC);
+        CHECK(record.r[2], 0x56781234);
+    }
+}
+
+/* The first instruction accesses so many bytes of RAM at an offset: in windows with their edges there, it is run, and in those
+ * with an edge a byte further in, it faults. */
+static void check_edges(int line, uint32_t at, uint32_t size)
+{
+    const window inside[] = {{at, at + size}, {0, at + size}, {at, MB_RAM_BYTES}};
+    const window outside[] = {{at + 1, at + size}, {at, at + size - 1}, {at + 1, MB_RAM_BYTES}, {0, at + size - 1}, {at, at}};
+    const mb_record given = record;
+    for (size_t i = 0; i < sizeof outside / sizeof outside[0]; i++) {
+        set_window(outside[i].start, outside[i].end);
+        check_fault(line, MB_FAULT_OUTSIDE_WINDOW);
+    }
+    for (size_t i = 0; i < sizeof inside / sizeof inside[0]; i++) {
+        set_window(inside[i].start, inside[i].end);
+        record = given;
+        check_answer(line, step(), MB_ACCEPTED, (mb_stopped){MB_STOP_BUDGET, 0, 0, 0, 1});
+    }
+}
+
+/* str and ldr by SP, and literal operations 4 and 5, which may be unaligned. */
+static void windows_of_the_stack(void)
+{
+    const struct { uint16_t halfword; uint16_t literal[2]; uint32_t at; } accesses[] = {
+        {0x9101, {0, 0}, 104}, {0x9901, {0, 0}, 104}, {0xDF01, {0x0003, 0xC420}, 103}, {0xDF01, {0x0003, 0xC520}, 103},
+    };
+    for (size_t i = 0; i < sizeof accesses / sizeof accesses[0]; i++) {
+        begin();
+        PAGE(accesses[i].halfword, 0xDF00, accesses[i].literal[0], accesses[i].literal[1]);
+        record.sp = 0x10000 + 100;
+        check_edges(__LINE__, accesses[i].at, 4);
+        record.place = 0;
+        record.sp = 0x18000;
+        set_window(0, 0); /* 4 before 7 */
+        FAULTS(MB_FAULT_PAST_STACK);
+    }
+}
+
+/* Loads and stores by the base, of each size; an offset that is no multiple of it. */
+static void windows_of_bases(void)
+{
+    const struct { uint16_t halfword; uint32_t size; } accesses[] = {
+        {0xF8C9, 4}, {0xF889, 1}, {0xF8A9, 2}, {0xF8D8, 4}, {0xF8D9, 4}, {0xF898, 1}, {0xF899, 1}, {0xF8B8, 2}, {0xF8B9, 2},
+        {0xF998, 1}, {0xF999, 1}, {0xF9B8, 2}, {0xF9B9, 2},
+    };
+    for (size_t i = 0; i < sizeof accesses / sizeof accesses[0]; i++) {
+        begin();
+        PAGE(accesses[i].halfword, 0x1003, 0xBF00, 0xDF00); /* r1, at the base + 3 */
+        set_base(MB_BASE_RAM, 98);
+        check_edges(__LINE__, 101, accesses[i].size);
+        record.place = 0;
+        set_window(0, 0); /* 2 and 1 before 7 */
+        set_base(MB_BASE_RAM, 32768 - accesses[i].size - 2);
+        FAULTS(MB_FAULT_PAST_RAM);
+        set_base(MB_BASE_NONE, 0);
+        FAULTS(MB_FAULT_NO_BASE);
+    }
+}
+
+/* External data isn't RAM: a load from it is tested as before in any window. */
+static void external_load_in_a_window(void)
+{
+    begin();
+    PAGE(0xF8D8, 0x0000, 0xBF00, 0xDF00);
+    external_length = 512;
+    set_window(0, 0);
+    set_base(MB_BASE_EXTERNAL, 252);
+    STOPS(step(), MB_STOP_BUDGET, 0, 0, 1);
+    CHECK(record.r[0], 0xFCF7F2ED);
+    record.place = 0;
+    set_base(MB_BASE_EXTERNAL, 253);
+    FAULTS(MB_FAULT_OFF_EXTERNAL_PAGE);
+}
+
+/* The word at SP grows by one. What it comes to, and all else, is the same whatever stands outside the window, and that stays. */
+static void rams_that_agree_inside(void)
+{
+    mb_record expected;
+    uint32_t word;
+    begin();
+    PAGE(0x9800, 0x1C40, 0x9000, 0xDF00);
+    record.sp = 0x10000 + 104;
+    set_window(104, 108);
+    word = ram_word(104);
+    STOPS(run(100000), MB_STOP_SERVICE, 0, 0, 4);
+    CHECK(ram_word(104), word + 1);
+    CHECK(record.r[0], word + 1);
+    expected = record;
+    begin();
+    PAGE(0x9800, 0x1C40, 0x9000, 0xDF00);
+    record.sp = 0x10000 + 104;
+    set_window(104, 108);
+    for (size_t i = 0; i < sizeof lent.ram; i++)
+        lent.ram[i] = (uint8_t)(i - 104 < 4 ? lent.ram[i] : ~lent.ram[i]);
+    keep();
+    STOPS(run(100000), MB_STOP_SERVICE, 0, 0, 4);
+    CHECK(same_record(&record, &expected), true);
+    CHECK(ram_word(104), word + 1);
+    memcpy(before.ram + 104, lent.ram + 104, 4);
+    record = record_before;
+    CHECK(changed(), 0);
+}
+
+/* Two filters fill their windows from the end down, by turns in one RAM: SP less a word, a store of r0 there, and back. Each is
+ * stopped where its window starts, after 24 words. */
+static void two_filters_in_one_ram(void)
+{
+    const window windows[] = {{102, 203}, {203, 300}};
+    const uint32_t ends[] = {200, 300}, words[] = {0x11111111, 0x22222222};
+    mb_record records[2];
+    uint32_t steps[2] = {0, 0};
+    begin();
+    PAGE(0xDFC1, 0x9000, 0xE7FC, 0xBF00);
+    keep();
+    for (size_t i = 0; i < 2; i++) {
+        records[i] = fresh_by_hand();
+        records[i].sp = 0x10000 + ends[i];
+        records[i].r[0] = words[i];
+        memset(before.ram + ends[i] - 96, (int)(words[i] & 0xFF), 96);
+    }
+    for (size_t turn = 0; turn < 16; turn++) {
+        struct answer a;
+        set_window(windows[turn % 2].start, windows[turn % 2].end);
+        record = records[turn % 2];
+        a = run(10);
+        records[turn % 2] = record;
+        steps[turn % 2] += a.stopped.steps;
+        CHECK(a.code, MB_ACCEPTED);
+        CHECK(a.stopped.kind, turn < 14 ? MB_STOP_BUDGET : MB_STOP_FAULT);
+        CHECK(a.stopped.value, turn < 14 ? 0 : MB_FAULT_OUTSIDE_WINDOW);
+    }
+    CHECK(steps[0], 3 * 24 + 1);
+    CHECK(steps[1], 3 * 24 + 1);
+    record = record_before;
+    CHECK(changed(), 0);
+}
+
 /* ---- null pointers with length 0 */
 
 static void null_page_and_data(void)
@@ -1692,6 +1908,7 @@ typedef void (*test)(void);
 /* Pages with an encoding that the small profile lacks. */
 static const test of_the_full_profile[] = {
     counts, movw, word_store, earlier_stores_stay, base_by_service, external_load, other_faults, refused_places,
+    windows_of_bases, external_load_in_a_window,
 };
 
 static const test of_both_profiles[] = {
@@ -1704,6 +1921,7 @@ static const test of_both_profiles[] = {
     counts_of_syscalls, places_of_syscalls, places_behind_syscalls, other_services,
     counts_of_profiles, bundles_of_profiles, places_of_profiles,
     unknown_profiles_of_pages, unknown_profiles_of_runs, unknown_profiles_of_bytes,
+    refused_windows, small_windows, windows_of_the_stack, rams_that_agree_inside, two_filters_in_one_ram,
     null_page_and_data, null_in_runs, null_rooms, exits, no_exits, exits_of_stops,
 };
 

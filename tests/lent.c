@@ -1,7 +1,7 @@
 /* The header's calls with null areas of length 0, over proved calls of this file's own instead of the archive's: what they are
  * lent is never null and never overlaps, which the archive wouldn't show. The set of syscalls and the profile are the program's,
- * whole, and the position and the length that come back are the proved call's. Areas with bytes are lent as they are, and
- * stay where the proved call doesn't write. */
+ * whole, the window is the setting's, and the position and the length that come back are the proved call's. Areas with bytes are
+ * lent as they are, and stay where the proved call doesn't write. */
 #include "check.h"
 #include "marshbodkin.h"
 
@@ -11,6 +11,10 @@
 #define NEVER_RETURN UINT64_C(0x8000000000000001)
 #define PROFILE UINT32_C(0x80000001)
 
+/* The window, as the setting has it. */
+#define WINDOW_START UINT32_C(0x80000002)
+#define WINDOW_END UINT32_C(0x80000003)
+
 /* Positions, and a length, that the proved calls write; answers of two. */
 enum { STORE_POSITION = 71, LOAD_POSITION = 72, RUN_POSITION = 73, PACK_POSITION = 74, UNPACK_POSITION = 75 };
 #define PACKED_LENGTH (SIZE_MAX - 1)
@@ -19,7 +23,7 @@ enum { PACK_ANSWER = 98, UNPACK_ANSWER = 97 };
 /* The areas of one call, and how many have another length than 0. */
 static const uint8_t *areas[3];
 static size_t lengths[3];
-static uint32_t areas_lent, other_lengths, other_sets, other_profiles;
+static uint32_t areas_lent, other_lengths, other_sets, other_profiles, other_windows;
 
 static void take(const uint8_t *area, size_t length)
 {
@@ -96,13 +100,14 @@ uint32_t mb_raw_unpack(const uint8_t *packed, size_t packed_length, uint8_t *roo
 
 /* It answers the budget, which for a step is 1. */
 uint32_t mb_raw_run(const uint8_t *page, size_t page_length, uint64_t never_return, uint32_t profile, uint8_t *ram,
-                    size_t ram_length, const uint8_t *external, size_t external_length, uint8_t *record,
-                    size_t record_length, uint32_t budget, uint32_t *kind, uint32_t *value, uint32_t *literal,
-                    uint32_t *position, uint32_t *steps)
+                    size_t ram_length, const uint8_t *external, size_t external_length, uint32_t window_start,
+                    uint32_t window_end, uint8_t *record, size_t record_length, uint32_t budget, uint32_t *kind,
+                    uint32_t *value, uint32_t *literal, uint32_t *position, uint32_t *steps)
 {
     take_program(page, page_length, never_return, profile);
     take(ram, ram_length);
     take(external, external_length);
+    other_windows += window_start != WINDOW_START || window_end != WINDOW_END;
     *kind = *value = *literal = *steps = 0;
     *position = RUN_POSITION;
     return budget + mb_raw_fresh(record, record_length);
@@ -116,6 +121,7 @@ static void check_lent(int line, uint32_t answer, uint32_t expected, uint32_t nu
     check(line, "other lengths", other_lengths, 0);
     check(line, "other sets", other_sets, 0);
     check(line, "other profiles", other_profiles, 0);
+    check(line, "other windows", other_windows, 0);
     for (uint32_t i = 0; i < areas_lent; i++) {
         check(line, "null", areas[i] == NULL, false);
         check(line, "overlap", i > 0 && areas[i] == areas[i - 1], false);
@@ -187,6 +193,8 @@ int main(void)
     program.never_return = NEVER_RETURN;
     program.profile = PROFILE;
     setting = mb_setting_of(program, NULL, 0);
+    setting.window_start = WINDOW_START;
+    setting.window_end = WINDOW_END;
     LENT(mb_count(&program, &count), 0, 1);
     LENT(mb_read_bundle(&program, 0, &reading), 0, 1);
     LENT(mb_validate(&setting, 0, &base), 0, 1);

@@ -33,7 +33,8 @@ static uint32_t code, refused, position, numbers[5];
 static size_t length;
 static mb_stopped stopped;
 
-/* ---- the calls, each of which leaves 0 in code; those that can go other ways do so first, and add up what they refuse by */
+/* ---- the calls, each of which leaves 0 in code; those that can go other ways do so first, and add up what they refuse or
+ * fault by */
 
 static void version(void) { code = mb_raw_version() - MB_VERSION; }
 static void count(void) { code = mb_raw_count(page, page_length, never_return, profile, &numbers[0]); }
@@ -81,36 +82,47 @@ static void decode_exit(void)
         mb_raw_exit(low, 0x80070001, &numbers[0], &numbers[1], &numbers[2], &numbers[3], &numbers[4]);
 }
 
-static uint32_t run_from(uint8_t *bytes)
+/* In a window up to an offset: all of RAM, none of it, or more, which is refused. */
+static uint32_t run_from(uint8_t *bytes, uint32_t window_end)
 {
     return mb_raw_run(page, page_length, never_return, profile, ram, sizeof ram, external, sizeof external,
-                      bytes, MB_RECORD_BYTES, 1000, &stopped.kind, &stopped.value, &stopped.literal, &stopped.position,
-                      &stopped.steps);
+                      0, window_end, bytes, MB_RECORD_BYTES, 1000, &stopped.kind, &stopped.value, &stopped.literal,
+                      &stopped.position, &stopped.steps);
 }
 
-static uint32_t step_from(uint8_t *bytes)
+static uint32_t step_from(uint8_t *bytes, uint32_t window_end)
 {
     return mb_raw_step(page, page_length, never_return, profile, ram, sizeof ram, external, sizeof external,
-                       bytes, MB_RECORD_BYTES, &stopped.kind, &stopped.value, &stopped.literal, &stopped.position,
-                       &stopped.steps);
+                       0, window_end, bytes, MB_RECORD_BYTES, &stopped.kind, &stopped.value, &stopped.literal,
+                       &stopped.position, &stopped.steps);
 }
 
-/* The page goes on behind a direct syscall, up to its exit by a literal. */
+/* The page goes on behind a direct syscall, up to its exit by a literal; without RAM to its first access. */
 static void run(void)
 {
-    refused += run_from(no_record);
+    refused += run_from(no_record, MB_RAM_BYTES);
+    refused += run_from(no_record, MB_RAM_BYTES + 1);
+    fresh();
+    refused += run_from(record, 0);
+    refused += stopped.value;
     fresh();
     do {
-        code = run_from(record);
+        code = run_from(record, MB_RAM_BYTES);
     } while (stopped.kind == MB_STOP_SERVICE);
 }
 
 static void steps(void)
 {
-    refused += step_from(no_record);
+    refused += step_from(no_record, MB_RAM_BYTES);
+    refused += step_from(no_record, MB_RAM_BYTES + 1);
     fresh();
     do {
-        code = step_from(record);
+        refused += step_from(record, 0);
+        refused += stopped.value;
+    } while (stopped.kind == MB_STOP_BUDGET);
+    fresh();
+    do {
+        code = step_from(record, MB_RAM_BYTES);
     } while (stopped.kind == MB_STOP_BUDGET || stopped.kind == MB_STOP_SERVICE);
 }
 
@@ -212,9 +224,10 @@ int main(void)
 {
     static const named_call calls[] = {
         {"version", version, 0, 0}, {"count", count, 0, 0}, {"read_bundle", read_bundle, 0, 0},
-        {"validate", validate, 0, 0}, {"fresh", fresh, 0, 0}, {"step", steps, 0x16, MB_REFUSED_NO_RECORD},
-        {"run", run, 0x16, MB_REFUSED_NO_RECORD}, {"store", store, 0, MB_REFUSED_FORM_RANGE},
-        {"load", load, 0, MB_REFUSED_FORM_RANGE},
+        {"validate", validate, 0, 0}, {"fresh", fresh, 0, 0},
+        {"step", steps, 0x16, MB_REFUSED_NO_RECORD + MB_REFUSED_WINDOW_BOUNDS + MB_FAULT_OUTSIDE_WINDOW},
+        {"run", run, 0x16, MB_REFUSED_NO_RECORD + MB_REFUSED_WINDOW_BOUNDS + MB_FAULT_OUTSIDE_WINDOW},
+        {"store", store, 0, MB_REFUSED_FORM_RANGE}, {"load", load, 0, MB_REFUSED_FORM_RANGE},
         {"pack", pack, 0, MB_REFUSED_FORM_RANGE + MB_REFUSED_ROOM_TOO_SMALL},
         {"unpack", unpack, 0, MB_REFUSED_NOT_GROUPED + MB_REFUSED_FORM_RANGE}, {"exit", decode_exit, 0, 0},
     };

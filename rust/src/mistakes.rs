@@ -1,6 +1,7 @@
 //! Deliberate mistakes: a comparison that does not find them is worth nothing.
 
 mod short;
+mod windows;
 
 use crate::second::arith::{condition_passed, Flags};
 use crate::second::count::{
@@ -227,7 +228,7 @@ const MISTAKES: [(&str, Rules); 28] = [
     ),
 ];
 
-/// All mistakes, those of the short form last.
+/// All mistakes, those of windows and of the short form last.
 fn all() -> impl Iterator<Item = (&'static str, Rules)> {
     let of_the_short_form = short::MISTAKES.into_iter().map(|(name, short)| {
         let rules = Rules {
@@ -236,7 +237,8 @@ fn all() -> impl Iterator<Item = (&'static str, Rules)> {
         };
         (name, rules)
     });
-    MISTAKES.into_iter().chain(of_the_short_form)
+    let others = MISTAKES.into_iter().chain(windows::MISTAKES);
+    others.chain(of_the_short_form)
 }
 
 /// The names of all mistakes.

@@ -15,6 +15,7 @@ use marshbodkin_check::second::record::{
 };
 use marshbodkin_check::second::refusal::Refusal;
 use marshbodkin_check::second::rules::Rules;
+use marshbodkin_check::second::setting::Setting;
 use marshbodkin_check::second::text;
 
 const RIGHT: Rules = Rules::RIGHT;
@@ -58,8 +59,9 @@ fn form_refusal(bytes: &[u8]) -> Option<Refusal> {
 fn run_refusal(bytes: &[u8], external: usize) -> Option<Refusal> {
     let page = page_bytes(&[[0x2001, 0xDF00]]);
     let (mut ram, external) = (vec![7; RAM_SIZE], vec![0; external]);
-    let (code, mut record) = (Code::plain(&page), bytes.to_vec());
-    let (stop, _) = run_bytes(RIGHT, code, &mut ram, &external, &mut record, 5);
+    let setting = Setting::new(Code::plain(&page)).with_external(&external);
+    let mut record = bytes.to_vec();
+    let (stop, _) = run_bytes(RIGHT, setting, &mut ram, &mut record, 5);
     assert!(ram.iter().all(|&byte| byte == 7));
     // Every run of this page changes the record.
     assert_eq!(record == bytes, stop.refusal().is_some());

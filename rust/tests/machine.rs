@@ -11,14 +11,15 @@ use marshbodkin_check::second::record::{
 };
 use marshbodkin_check::second::refusal::Refusal;
 use marshbodkin_check::second::rules::Rules;
+use marshbodkin_check::second::setting::Setting;
 
 const RIGHT: Rules = Rules::RIGHT;
 
 /// Runs one bundle and a return from a record, with external data.
 fn run_bundle(bundle: Bundle, record: &Record, external: &[u8]) -> (Stop, Record) {
     let page = page_bytes(&[bundle, [asm::RETURN, asm::NOP]]);
-    let code = Code::plain(&page);
-    let answer = run(code, &mut vec![0; RAM_SIZE], external, record, 10);
+    let setting = Setting::new(Code::plain(&page)).with_external(external);
+    let answer = run(setting, &mut vec![0; RAM_SIZE], record, 10);
     (answer.stop, answer.record)
 }
 
@@ -38,8 +39,9 @@ fn refusals_come_in_order() {
         ..Record::fresh()
     };
     let refusal = |page: &[u8], ram: usize, external: usize, record: &Record| {
-        let mut ram = vec![7; ram];
-        let answer = run(Code::plain(page), &mut ram, &vec![0; external], record, 5);
+        let (mut ram, external) = (vec![7; ram], vec![0; external]);
+        let setting = Setting::new(Code::plain(page)).with_external(&external);
+        let answer = run(setting, &mut ram, record, 5);
         assert_eq!((&answer.record, answer.steps), (record, 0));
         assert!(ram.iter().all(|&byte| byte == 7));
         answer.stop.refusal()
@@ -61,11 +63,11 @@ fn refusals_come_in_order() {
 #[test]
 fn budget_is_tested_first() {
     let page = page_bytes(&[[0x2001, 0xDF00]]);
-    let code = Code::plain(&page);
+    let setting = Setting::new(Code::plain(&page));
     let mut ram = vec![0; RAM_SIZE];
-    let none = run(code, &mut ram, &[], &Record::fresh(), 0);
+    let none = run(setting, &mut ram, &Record::fresh(), 0);
     assert_eq!((none.stop, none.steps), (Stop::Budget, 0));
-    let one = step(code, &mut ram, &[], &Record::fresh());
+    let one = step(setting, &mut ram, &Record::fresh());
     assert_eq!(
         (one.stop, one.steps, one.record.place),
         (Stop::Budget, 1, 1)
@@ -116,12 +118,12 @@ fn exits_move_on_unless_they_terminate() {
 fn single_steps_equal_one_run() {
     for number in 0..200 {
         let page = random::page(11, number);
-        let code = Code::plain(&page);
+        let setting = Setting::new(Code::plain(&page));
         let (mut whole, mut parts) = (vec![0; RAM_SIZE], vec![0; RAM_SIZE]);
-        let answer = run(code, &mut whole, &[], &Record::fresh(), 100);
+        let answer = run(setting, &mut whole, &Record::fresh(), 100);
         let (mut record, mut steps, mut last) = (Record::fresh(), 0, Stop::Budget);
         while last == Stop::Budget && steps < 100 {
-            let one = step(code, &mut parts, &[], &record);
+            let one = step(setting, &mut parts, &record);
             (record, last) = (one.record, one.stop);
             steps += one.steps;
         }

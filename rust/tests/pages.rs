@@ -15,6 +15,7 @@ use marshbodkin_check::second::page::{Code, Page};
 use marshbodkin_check::second::profile::{FULL, SMALL};
 use marshbodkin_check::second::record::Record;
 use marshbodkin_check::second::rules::Rules;
+use marshbodkin_check::second::setting::Setting;
 use marshbodkin_check::second::text;
 
 const PAGES: u64 = 400;
@@ -154,7 +155,7 @@ fn trace(bytes: &[u8], seen: &mut BTreeMap<String, u32>) {
     let Ok(page) = Page::new(code) else { return };
     let (mut ram, mut record) = (vec![0; RAM_SIZE], Record::fresh());
     for _ in 0..300 {
-        let answer = step(code, &mut ram, &[], &record);
+        let answer = step(Setting::new(code), &mut ram, &record);
         if answer.steps == 1 {
             let instruction = at_place(page, &record).expect("a listed instruction");
             *seen.entry(name(instruction, record.flags)).or_default() += 1;

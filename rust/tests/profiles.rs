@@ -17,6 +17,7 @@ use marshbodkin_check::second::profile::{FULL, SMALL};
 use marshbodkin_check::second::record::{Base, Record};
 use marshbodkin_check::second::refusal::Refusal;
 use marshbodkin_check::second::rules::Rules;
+use marshbodkin_check::second::setting::Setting;
 
 const RIGHT: Rules = Rules::RIGHT;
 const RETURNED: Stop = Stop::Service {
@@ -46,7 +47,7 @@ fn stop(code: Code, place: u16) -> Stop {
         place,
         ..Record::fresh()
     };
-    run(code, &mut vec![0; RAM_SIZE], &[], &record, 10).stop
+    run(Setting::new(code), &mut vec![0; RAM_SIZE], &record, 10).stop
 }
 
 #[test]
@@ -130,8 +131,9 @@ fn an_unknown_profile_is_refused_before_all_else() {
                 assert_eq!(read, (Reading::Bad, Some(18)));
             }
             for (ram, external) in [(RAM_SIZE, 0), (0, 0), (RAM_SIZE, 1)] {
-                let mut ram = vec![7; ram];
-                let answer = run(code, &mut ram, &vec![0; external], &unfit, 5);
+                let (mut ram, external) = (vec![7; ram], vec![0; external]);
+                let setting = Setting::new(code).with_external(&external);
+                let answer = run(setting, &mut ram, &unfit, 5);
                 assert_eq!((answer.stop, answer.steps), (refused, 0));
                 assert_eq!(answer.record, unfit);
                 assert!(ram.iter().all(|&byte| byte == 7));

@@ -3,6 +3,7 @@
 
 use marshbodkin::{self as wrapper, Program, Setting};
 use marshbodkin_check::compare::codes::{self, UNKNOWN};
+use marshbodkin_check::compare::ranges::{self, REFUSED};
 use marshbodkin_check::compare::{cases, records};
 use marshbodkin_check::random::{Random, DEFAULT_SEED};
 use marshbodkin_check::second::machine::{step, Stop};
@@ -12,6 +13,7 @@ use marshbodkin_check::second::record::{
 };
 use marshbodkin_check::second::refusal::Refusal;
 use marshbodkin_check::second::rules::Rules;
+use marshbodkin_check::second::setting;
 use marshbodkin_check::second::text;
 
 const STEPS: u64 = 20_000;
@@ -76,12 +78,21 @@ fn the_same_fields_after_a_step() {
         if number % 64 == 1 {
             code.profile = UNKNOWN[number as usize / 64 % UNKNOWN.len()];
         }
-        let expected = step(code, &mut other, &external, &case.record);
+        let window = match number % 64 {
+            2 => REFUSED[number as usize / 64 % REFUSED.len()],
+            _ => ranges::for_run(&mut random, &case.record),
+        };
+        let setting = setting::Setting::new(code).with_external(&external);
+        let expected = step(setting.within(window), &mut other, &case.record);
         let mut record = wrapped(&case.record);
         let program = Program::new(&case.page)
             .never_return(code.never_return.0)
             .profile(code.profile);
-        let setting = Setting::new(program).external(&external);
+        let window = wrapper::Window {
+            start: window.start,
+            end: window.end,
+        };
+        let setting = Setting::new(program).external(&external).window(window);
         let stopped = setting.step(&mut ram, &mut record);
         let stop = stopped.map(|stopped| stopped.stop);
         assert_eq!(stop.map_err(of_wrapper), wrapped_stop(expected.stop));

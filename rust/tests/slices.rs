@@ -11,6 +11,8 @@ use marshbodkin_check::second::machine::{run, Stop};
 use marshbodkin_check::second::memory::RAM_SIZE;
 use marshbodkin_check::second::page::Code;
 use marshbodkin_check::second::record::{stored_bytes, Record};
+use marshbodkin_check::second::setting::Setting;
+use marshbodkin_check::second::window::Window;
 
 /// Three steps: r0 = 1, r0 = r0 + 1, and a return.
 fn three_steps() -> Vec<u8> {
@@ -20,7 +22,7 @@ fn three_steps() -> Vec<u8> {
 #[test]
 fn slices_by_hand() {
     let page = three_steps();
-    let (code, mut ram) = (Code::plain(&page), vec![0; RAM_SIZE]);
+    let (setting, mut ram) = (Setting::new(Code::plain(&page)), vec![0; RAM_SIZE]);
     let returned = Stop::Service {
         low: 0,
         literal: None,
@@ -32,13 +34,13 @@ fn slices_by_hand() {
         (1, Stop::Budget, 1, 2, 2),
         (5, returned, 1, 2, 2),
     ] {
-        let slice = run(code, &mut ram, &[], &record, budget);
+        let slice = run(setting, &mut ram, &record, budget);
         record = slice.record;
         assert_eq!((slice.stop, slice.steps), (stop, steps));
         assert_eq!((record.registers[0], record.place), (r0, place));
     }
     for budget in [3, 4, 7, u32::MAX] {
-        let whole = run(code, &mut ram, &[], &Record::fresh(), budget);
+        let whole = run(setting, &mut ram, &Record::fresh(), budget);
         assert_eq!((whole.stop, whole.steps), (returned, 3));
         assert_eq!(whole.record, record);
     }
@@ -51,6 +53,7 @@ fn a_difference_in_any_part_is_found() {
     let handed = Handed {
         code: Code::plain(&page),
         external: &[],
+        window: Window::WHOLE,
         record: &record,
         budget: 3,
     };
@@ -96,9 +99,11 @@ fn a_tally_misses_what_was_not_met() {
         "larger budget 0 was not met",
         "larger budget 5 was not met",
         "larger budget 18 was not met",
+        "larger budget 20 was not met",
         "larger budget 255-at-0 was not met",
         "larger budgets: stops: literal was not met",
         "larger budgets: faults: 6 was not met",
+        "larger budgets: faults: 7 was not met",
         "slices made: 3 was not met",
         "slices made: 6 or more was not met",
         "slices of 0: between was not met",

@@ -14,6 +14,7 @@ use marshbodkin_check::second::page::{Code, NeverReturn};
 use marshbodkin_check::second::record::{Base, Record};
 use marshbodkin_check::second::refusal::Refusal;
 use marshbodkin_check::second::rules::Rules;
+use marshbodkin_check::second::setting::Setting;
 
 const RIGHT: Rules = Rules::RIGHT;
 const NONE: NeverReturn = NeverReturn::NONE;
@@ -39,8 +40,8 @@ fn run_from(bundles: &[Bundle], set: NeverReturn, place: u16) -> Answer {
         base: Base::Ram(5),
         ..Record::fresh()
     };
-    let code = Code::new(&page, set);
-    run(code, &mut vec![0; RAM_SIZE], &[], &record, 10)
+    let setting = Setting::new(Code::new(&page, set));
+    run(setting, &mut vec![0; RAM_SIZE], &record, 10)
 }
 
 /// The stop of a direct syscall.

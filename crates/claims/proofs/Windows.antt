@@ -42,7 +42,7 @@ by-length : (setting : Setting) (r : Record) (a b : List ℕ) → length a ≡ l
 unfolding runDecision
 by-length setting r a b e = rw e
 
-within-window : (Call : Type 0) (handed : Call → Handed Setting) (gave : Call → Result) (setting : Setting)
+pub within-window : (Call : Type 0) (handed : Call → Handed Setting) (gave : Call → Result) (setting : Setting)
     → WithinWindow (machineOf Call handed gave setting)
 within-window Call handed gave setting = record {
   reads-inside = λ s r a b e.

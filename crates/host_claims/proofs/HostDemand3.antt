@@ -23,7 +23,7 @@ use Rattle.host_claims.proofs.Refused.{NoValues, no-values}
 -- ---- one call
 
 -- its contract
-crossed-is : (c : HostCall)
+pub crossed-is : (c : HostCall)
     → crossedBy c ≡ hostRun (lentTo c .setting) (lentTo c .budget) (lentTo c .bytes) (lentTo c .ram)
 crossed-is (ofRun κs a x s bytes contract) = contract
 crossed-is (ofStep κs a x s bytes contract) = contract

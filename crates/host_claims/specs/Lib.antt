@@ -2,3 +2,4 @@ pub mod HostCalls
 pub mod HostExits
 pub mod HostSeries
 pub mod HostStopAndGoOn
+pub mod HostWindows

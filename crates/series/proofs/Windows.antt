@@ -103,7 +103,7 @@ module _ (m : Machine) (inside : WithinWindow m) (meets : (c : m .Call) → m .g
 
   -- ---- two calls
 
-  called-equal : (setting : m .Setting) (total : ℕ) (r : Record) (a b : List ℕ) → EqualInside (m .window setting) a b
+  pub called-equal : (setting : m .Setting) (total : ℕ) (r : Record) (a b : List ℕ) → EqualInside (m .window setting) a b
       → EqualBut (EqualInside (m .window setting)) (called m (record { setting = setting; budget = total; rec = r; ram = a }))
       (called m (record { setting = setting; budget = total; rec = r; ram = b }))
   called-equal setting total r a b e = rw (inside .refuses-by-length setting r a b (e .0)) (go (m .decision setting r b))

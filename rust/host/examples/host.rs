@@ -7,7 +7,8 @@
 use std::error::Error;
 use std::process::ExitCode;
 
-use marshbodkin::{syscall_bit, version, Exit, Program, Record, Refusal, Setting, Stop, VERSION};
+use marshbodkin::{syscall_bit, version, VERSION};
+use marshbodkin::{Exit, Program, Record, Refusal, Setting, Stop, Window};
 use marshbodkin::{BUNDLE_LENGTH, EXTERNAL_PAGE_LENGTH, EXTERNAL_START, RAM_LENGTH, SHORT_MOST};
 
 type Outcome = Result<(), Box<dyn Error>>;
@@ -19,6 +20,9 @@ const MOST_STEPS: u32 = 1000;
 
 /// The filter's syscall that never returns.
 const ABORT: u32 = 63;
+
+/// The filter needs no RAM: what the host keeps there is safe from it.
+const NO_RAM: Window = Window { start: 0, end: 0 };
 
 /// The filter's registers.
 const NEXT_PAIR: usize = 0;
@@ -194,7 +198,7 @@ fn show() -> Outcome {
     let bundles = page.len() / BUNDLE_LENGTH;
     println!("count {} of {bundles} bundles", program.count()?);
     let mut host = Host {
-        setting: Setting::new(program).external(&external),
+        setting: Setting::new(program).external(&external).window(NO_RAM),
         ram: vec![0; RAM_LENGTH],
         kept: 0,
     };

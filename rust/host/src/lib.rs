@@ -56,7 +56,8 @@
 //!
 //! Every direct syscall returns unless the host says otherwise, by
 //! [`Program::never_return`]; and a filter may use every listed encoding unless
-//! the host says, by [`Program::profile`], that it is for a smaller processor.
+//! the host says, by [`Program::profile`], that it is for a smaller processor. All of
+//! RAM is the filter's unless the host gives it a part, by [`Setting::window`].
 //!
 //! Programs, settings, records and enums will gain parts; hosts that make the
 //! first three as shown here, and match enums with `_` last, stay right.
@@ -72,6 +73,7 @@ mod record;
 mod refusal;
 mod short;
 mod stop;
+mod window;
 pub mod words;
 
 pub use exit::Exit;
@@ -81,6 +83,7 @@ pub use record::{AT_BASE_KIND, AT_BASE_OFFSET, AT_FLAGS, AT_PLACE, AT_R0, AT_SP}
 pub use refusal::Refusal;
 pub use short::{pack, unpack, SHORT_LEAST, SHORT_MOST};
 pub use stop::{Fault, Stop, Stopped};
+pub use window::Window;
 
 /// Most bytes of a page, which are a multiple of [`BUNDLE_LENGTH`].
 pub const PAGE_MOST: usize = 256;
@@ -113,7 +116,7 @@ pub const PROFILE_FULL: u32 = 0;
 pub const PROFILE_SMALL: u32 = 1;
 
 /// The version of these calls: 65536 * major + 256 * minor + patch.
-pub const VERSION: u32 = 0x00_06_00;
+pub const VERSION: u32 = 0x00_07_00;
 
 /// The version of the archive that is linked, to be held against [`VERSION`]
 /// before any other call.

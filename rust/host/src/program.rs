@@ -4,6 +4,7 @@ use crate::raw;
 use crate::record::{Base, Record};
 use crate::refusal::{verdict, Refusal};
 use crate::stop::Stopped;
+use crate::window::Window;
 use crate::PROFILE_FULL;
 
 /// What the reader says of a bundle.
@@ -119,18 +120,55 @@ impl<'a> Program<'a> {
 pub struct Setting<'a> {
     program: Program<'a>,
     external: &'a [u8],
+    window: Window,
 }
 
 impl<'a> Setting<'a> {
-    /// The program without external data.
+    /// The program without external data, with all of RAM.
     pub fn new(program: Program<'a>) -> Setting<'a> {
-        let external = &[];
-        Setting { program, external }
+        Setting {
+            program,
+            external: &[],
+            window: Window::WHOLE,
+        }
     }
 
     /// The same with external data, which the program can only read.
     pub fn external(self, external: &'a [u8]) -> Setting<'a> {
         Setting { external, ..self }
+    }
+
+    /// The same in a window of RAM, empty too: an access that isn't wholly inside is
+    /// [`Fault::OutsideWindow`](crate::Fault::OutsideWindow). Any numbers will do here;
+    /// calls refuse a start above the end and an end above
+    /// [`RAM_LENGTH`](crate::RAM_LENGTH).
+    ///
+    /// The program neither reads nor writes RAM outside: those bytes stay, and runs whose
+    /// RAMs agree inside are equal in stop, steps, record and the window's bytes. So
+    /// programs whose windows don't overlap may share one RAM, one after the other.
+    ///
+    /// ```
+    /// use marshbodkin::{Fault, Program, Record, Refusal, Setting, Stop, Window, RAM_LENGTH};
+    ///
+    /// let page = [0xC1, 0xDF, 0x00, 0x90, 0x00, 0xBF, 0x00, 0xDF]; // SP down a word; a store there
+    /// let (mut ram, mut record) = (vec![0; RAM_LENGTH], Record::default());
+    /// let setting = Setting::new(Program::new(&page));
+    /// let lower_half = setting.window(Window { start: 0, end: 16_384 });
+    /// let stopped = lower_half.run(&mut ram, &mut record, 100)?;
+    /// assert_eq!(stopped.stop, Stop::Fault(Fault::OutsideWindow));
+    ///
+    /// let upper_half = setting.window(Window { start: 16_384, end: 32_768 });
+    /// let stopped = upper_half.run(&mut ram, &mut record, 100)?;
+    /// assert_eq!(stopped.stop.to_string(), "service exit 00");
+    ///
+    /// let backwards = setting.window(Window { start: 1, end: 0 });
+    /// let refused = backwards.run(&mut ram, &mut record, 100);
+    /// assert_eq!(refused, Err(Refusal::WindowBounds));
+    /// # Ok::<(), marshbodkin::Refusal>(())
+    /// ```
+    #[must_use]
+    pub fn window(self, window: Window) -> Setting<'a> {
+        Setting { window, ..self }
     }
 
     /// The base of an address: 01's validate, which the program has no part
@@ -142,7 +180,7 @@ impl<'a> Setting<'a> {
     }
 
     /// Runs from a record until the budget of steps is spent, a service is
-    /// for the host, or a fault. Refusals: 18, 1, 2, 3, 255, 41, 42, 43, 44, 5;
+    /// for the host, or a fault. Refusals: 18, 1, 2, 3, 20, 255, 41, 42, 43, 44, 5;
     /// RAM and record then stay as they were.
     ///
     /// To cut a run into slices, run on with the same record and RAM while it stops as
@@ -167,6 +205,7 @@ impl<'a> Setting<'a> {
                 profile,
                 ram,
                 self.external,
+                self.window,
                 bytes,
                 budget,
             )
@@ -181,7 +220,15 @@ impl<'a> Setting<'a> {
             profile,
         } = self.program;
         crossing(record, |bytes| {
-            raw::step(page, never_return, profile, ram, self.external, bytes)
+            raw::step(
+                page,
+                never_return,
+                profile,
+                ram,
+                self.external,
+                self.window,
+                bytes,
+            )
         })
     }
 }

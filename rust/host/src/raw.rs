@@ -8,12 +8,15 @@
 //!
 //! Bit n of `never_return` says that direct syscall n never returns; `profile` is
 //! [`PROFILE_FULL`](crate::PROFILE_FULL) or [`PROFILE_SMALL`](crate::PROFILE_SMALL),
-//! and any other number is refused. This is the one module with `unsafe`.
+//! and any other number is refused; so is a `window` that starts above its end or ends
+//! past RAM. This is the one module with `unsafe`.
 
 use marshbodkin_sys::{
     mb_raw_count, mb_raw_exit, mb_raw_fresh, mb_raw_load, mb_raw_pack, mb_raw_read_bundle,
     mb_raw_run, mb_raw_step, mb_raw_store, mb_raw_unpack, mb_raw_validate, mb_raw_version,
 };
+
+use crate::window::Window;
 
 /// What a step or a run answers, and the numbers it was lent.
 ///
@@ -171,12 +174,14 @@ pub fn unpack(packed: &[u8], room: &mut [u8]) -> (u32, u32) {
 }
 
 /// A run with a budget.
+#[allow(clippy::too_many_arguments)] // as many as the library's call has
 pub fn run(
     page: &[u8],
     never_return: u64,
     profile: u32,
     ram: &mut [u8],
     external: &[u8],
+    window: Window,
     record: &mut [u8],
     budget: u32,
 ) -> Answer {
@@ -192,6 +197,8 @@ pub fn run(
             ram.len(),
             external.as_ptr(),
             external.len(),
+            window.start,
+            window.end,
             record.as_mut_ptr(),
             record.len(),
             budget,
@@ -212,6 +219,7 @@ pub fn step(
     profile: u32,
     ram: &mut [u8],
     external: &[u8],
+    window: Window,
     record: &mut [u8],
 ) -> Answer {
     let mut answer = Answer::default();
@@ -226,6 +234,8 @@ pub fn step(
             ram.len(),
             external.as_ptr(),
             external.len(),
+            window.start,
+            window.end,
             record.as_mut_ptr(),
             record.len(),
             &mut answer.kind,

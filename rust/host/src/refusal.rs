@@ -5,8 +5,8 @@ use std::fmt;
 
 use crate::words;
 
-/// Why a call is refused: 01's refusals, those of an unknown profile, of a record's
-/// fields and of the short form, and the library's own.
+/// Why a call is refused: 01's refusals, those of an unknown profile, of a window, of a
+/// record's fields and of the short form, and the library's own.
 ///
 /// Two say where in the record's 44 bytes the first field begins that fails, by
 /// its position, as [`AT_SP`](crate::AT_SP): [`words::field`] names it.
@@ -40,6 +40,9 @@ pub enum Refusal {
     /// 18, before all others: the number given to
     /// [`Program::profile`](crate::Program::profile) is no profile's.
     UnknownProfile,
+    /// 20: the window given to [`Setting::window`](crate::Setting::window) starts above
+    /// its end or ends above 32,768.
+    WindowBounds,
     /// 41: SP is below 0x10000 or above 0x18000.
     SpBounds,
     /// 42: SP is no multiple of 4.
@@ -76,6 +79,7 @@ impl Refusal {
             9 => Refusal::NotGrouped,
             10 => Refusal::RoomTooSmall,
             18 => Refusal::UnknownProfile,
+            20 => Refusal::WindowBounds,
             41 => Refusal::SpBounds,
             42 => Refusal::SpAlignment,
             43 => Refusal::RamOffset,
@@ -98,6 +102,7 @@ impl Refusal {
             Refusal::NotGrouped => 9,
             Refusal::RoomTooSmall => 10,
             Refusal::UnknownProfile => 18,
+            Refusal::WindowBounds => 20,
             Refusal::SpBounds => 41,
             Refusal::SpAlignment => 42,
             Refusal::RamOffset => 43,

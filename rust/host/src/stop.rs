@@ -7,7 +7,7 @@ use crate::raw::Answer;
 use crate::refusal::{verdict_at, Refusal};
 use crate::words;
 
-/// 01's faults.
+/// 01's faults, and that of a window.
 #[derive(Clone, Copy, Debug, PartialEq, Eq)]
 #[non_exhaustive]
 pub enum Fault {
@@ -23,6 +23,8 @@ pub enum Fault {
     LowStack,
     /// 6: literal load past the page.
     PastPage,
+    /// 7: access to RAM outside the window.
+    OutsideWindow,
     /// A number that this version doesn't know.
     Unknown(u32),
 }
@@ -37,6 +39,7 @@ impl Fault {
             4 => Fault::PastStack,
             5 => Fault::LowStack,
             6 => Fault::PastPage,
+            7 => Fault::OutsideWindow,
             unknown => Fault::Unknown(unknown),
         }
     }
@@ -50,6 +53,7 @@ impl Fault {
             Fault::PastStack => 4,
             Fault::LowStack => 5,
             Fault::PastPage => 6,
+            Fault::OutsideWindow => 7,
             Fault::Unknown(number) => number,
         }
     }
@@ -231,7 +235,7 @@ mod tests {
         }
         let stop = Stop::of(6, 0, 0);
         assert_eq!(stop.to_string(), "stop 6: unknown");
-        assert_eq!(Stop::of(3, 7, 0), Stop::Fault(Fault::Unknown(7)));
+        assert_eq!(Stop::of(3, 8, 0), Stop::Fault(Fault::Unknown(8)));
         assert_eq!(answer(4, 5, 4), Err(Refusal::Unknown(4)));
     }
 

@@ -19,6 +19,7 @@ pub fn refusal(number: u32) -> &'static str {
         9 => "short form is not in shortest groups, is cut off or is followed by bytes",
         10 => "room for the written form is too small",
         18 => "unknown profile",
+        20 => "window starts above its end or ends above 32768",
         41 => "SP is below 0x10000 or above 0x18000",
         42 => "SP is no multiple of 4",
         43 => "RAM offset is not below 2^20",
@@ -59,6 +60,7 @@ pub fn fault(number: u32) -> &'static str {
         4 => "stack access past 0x18000",
         5 => "SP below 0x10000",
         6 => "literal load past the page",
+        7 => "access to RAM outside the window",
         _ => UNKNOWN,
     }
 }

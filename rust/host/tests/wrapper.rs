@@ -2,7 +2,7 @@
 
 use marshbodkin::{
     raw, syscall_bit, Base, Exit, Fault, Flags, Program, Reading, Record, Refusal, Setting, Stop,
-    Stopped, PROFILE_FULL, PROFILE_SMALL, RAM_LENGTH, RECORD_LENGTH,
+    Stopped, Window, PROFILE_FULL, PROFILE_SMALL, RAM_LENGTH, RAM_START, RECORD_LENGTH,
 };
 
 /// 01's printed page: four bundles, of which three are counted.
@@ -16,6 +16,21 @@ const MOVW: &[u16] = &[0xBF00, 0xDF00, 0xF241, 0x2034, 0xBF00, 0xDF00];
 const CBNZ: &[u16] = &[0xBF00, 0xDF00, 0xB900, 0xBF00, 0xBF00, 0xDF00];
 /// Numbers of no profile; of some a part is the number of one.
 const UNKNOWN_PROFILES: [u32; 6] = [2, 255, 256, 0x1_0001, 0x8000_0000, u32::MAX];
+
+/// Windows that are refused: they start above their end, end past RAM, or both.
+const REFUSED_WINDOWS: [Window; 6] = [
+    window(1, 0),
+    window(32_768, 32_767),
+    window(u32::MAX, 32_768),
+    window(0, 32_769),
+    window(0, u32::MAX),
+    window(u32::MAX, 32_769),
+];
+const BACKWARDS: Window = REFUSED_WINDOWS[0];
+
+const fn window(start: u32, end: u32) -> Window {
+    Window { start, end }
+}
 
 /// Why a call stopped and after how many steps, or why it was refused.
 type Outcome = Result<(Stop, u32), Refusal>;
@@ -343,7 +358,8 @@ fn faults() {
     let top = 0x18000;
     let off_page = with(Base::External(253), top);
     let low = with(Base::None, 0x10000);
-    let cases: [(&[u16], Record, Fault); 6] = [
+    let stack_store: &[u16] = &[0x9000, 0xDF00];
+    let cases: [(&[u16], Record, Fault); 7] = [
         (STORE, with(Base::None, top), Fault::NoBase),
         (STORE, with(Base::Ram(32_765), top), Fault::PastRam),
         (
@@ -354,10 +370,11 @@ fn faults() {
         (&[0x9800, 0xDF00], with(Base::None, top), Fault::PastStack),
         (&[0xDFC1, 0xDF00], low, Fault::LowStack),
         (&[0x48FF, 0xDF00], with(Base::None, top), Fault::PastPage),
+        (stack_store, with(Base::None, 0x10000), Fault::OutsideWindow),
     ];
     for (number, (halfwords, given, fault)) in (1..).zip(cases) {
         let (page, mut ram, mut record) = (page_of(halfwords), filled_ram(), given);
-        let setting = alone(&page).external(&[0; 512]);
+        let setting = alone(&page).external(&[0; 512]).window(window(4, 32_768));
         let faulted = Ok((Stop::Fault(fault), 0));
         assert_eq!(outcome(setting.run(&mut ram, &mut record, 9)), faulted);
         assert_eq!(outcome(setting.step(&mut ram, &mut record)), faulted);
@@ -382,6 +399,105 @@ fn ram_is_written() {
     assert_eq!(record.place, 2);
 }
 
+/// A step and a run fault at their first instruction, and leave the record and RAM as
+/// they were.
+fn check_outside(setting: Setting, given: Record) {
+    let (mut ram, mut record) = (filled_ram(), given);
+    let faulted = Ok((Stop::Fault(Fault::OutsideWindow), 0));
+    assert_eq!(outcome(setting.step(&mut ram, &mut record)), faulted);
+    assert_eq!(outcome(setting.run(&mut ram, &mut record, 9)), faulted);
+    assert_eq!(record, given);
+    assert!(ram == filled_ram());
+}
+
+/// A word store at 101, and one by SP at 104.
+#[test]
+fn accesses_at_the_edges_of_a_window() {
+    let stack_store = page_of(&[0x9001, 0xDF00]);
+    let (store, given) = (page_of(STORE), Record::default());
+    let by_base = Record {
+        base: Base::Ram(101),
+        ..given
+    };
+    let by_sp = Record {
+        sp: RAM_START + 100,
+        ..given
+    };
+    let cases = [(&store, by_base, 101, 3), (&stack_store, by_sp, 104, 2)];
+    for (page, record, at, steps) in cases {
+        let setting = alone(page);
+        for (start, end) in [(at, at + 4), (0, at + 4), (at, 32_768)] {
+            let inside = setting.window(window(start, end));
+            let ran = inside.run(&mut filled_ram(), &mut { record }, 9);
+            assert_eq!(outcome(ran), returned(steps));
+        }
+        for (start, end) in [
+            (at + 1, at + 4),
+            (at, at + 3),
+            (at - 1, at + 3),
+            (at + 1, at + 5),
+            (0, 0),
+        ] {
+            check_outside(setting.window(window(start, end)), record);
+        }
+        let back = setting.window(window(0, 0)).window(Window::WHOLE);
+        assert_eq!(
+            outcome(back.step(&mut filled_ram(), &mut { record })),
+            spent(1)
+        );
+    }
+}
+
+/// Empty ones too, and those in which no word fits: a page without an access runs there.
+#[test]
+fn windows_that_are_allowed() {
+    let page = page_of(PRINTED);
+    let small = [(0, 0), (32_768, 32_768), (5, 5), (7, 10), (32_767, 32_768)];
+    for (start, end) in small {
+        let setting = alone(&page).window(window(start, end));
+        let ran = setting.run(&mut filled_ram(), &mut Record::default(), 9);
+        assert_eq!(outcome(ran), returned(4));
+    }
+    assert_eq!(Window::WHOLE, window(0, 32_768));
+}
+
+#[test]
+fn windows_that_are_refused() {
+    let page = page_of(PRINTED);
+    for refused in REFUSED_WINDOWS {
+        let setting = alone(&page).window(refused);
+        check_refused(
+            Refusal::WindowBounds,
+            setting,
+            RAM_LENGTH,
+            Record::default(),
+        );
+        assert_eq!(setting.validate(0x10000), Ok(Base::Ram(0)));
+    }
+}
+
+/// Words marched up RAM from r0 on, for ever: base = validate(r0), the store of r1, r0 + 4,
+/// and back.
+const MARCH: &[u16] = &[0xBF00, 0xDFE0, 0xF8C9, 0x1000, 0x3004, 0xE7F9];
+
+/// Each of two filters fills its window, and leaves the other's.
+#[test]
+fn two_filters_in_one_ram() {
+    let page = page_of(MARCH);
+    let (mut ram, mut expected) = (filled_ram(), filled_ram());
+    for (start, end, word) in [(102, 203, 0x1111_1111), (203, 300, 0x2222_2222u32)] {
+        let mut record = Record::default();
+        record.registers[..2].copy_from_slice(&[RAM_START + start, word]);
+        let setting = alone(&page).window(window(start, end));
+        let ran = setting.run(&mut ram, &mut record, 10_000);
+        let words = (end - start) / 4;
+        let outside = Stop::Fault(Fault::OutsideWindow);
+        assert_eq!(outcome(ran), Ok((outside, 5 * words + 2)));
+        expected[start as usize..][..4 * words as usize].fill(word as u8);
+        assert!(ram == expected);
+    }
+}
+
 /// A step and a run are refused, and leave the record and RAM as they were.
 fn check_refused(refusal: Refusal, setting: Setting, ram: usize, given: Record) {
     let (mut lent, mut record) = (filled_ram(), given);
@@ -393,8 +509,8 @@ fn check_refused(refusal: Refusal, setting: Setting, ram: usize, given: Record) 
     assert!(lent == filled_ram());
 }
 
-/// The same of a program with external data, and an unknown profile is refused
-/// before.
+/// The same of a program with external data, also in a window that is refused if that
+/// is not told first; and an unknown profile is refused before.
 fn check_refused_behind_profile(
     refusal: Refusal,
     (program, external): (Program, &[u8]),
@@ -403,8 +519,17 @@ fn check_refused_behind_profile(
 ) {
     let setting = |program| Setting::new(program).external(external);
     check_refused(refusal, setting(program), ram, given);
+    let first = match refusal.number() {
+        1..=3 => refusal,
+        _ => Refusal::WindowBounds,
+    };
+    for refused in REFUSED_WINDOWS {
+        check_refused(first, setting(program).window(refused), ram, given);
+    }
     for number in UNKNOWN_PROFILES {
         let unknown = setting(program.profile(number));
+        check_refused(Refusal::UnknownProfile, unknown, ram, given);
+        let unknown = unknown.window(BACKWARDS);
         check_refused(Refusal::UnknownProfile, unknown, ram, given);
     }
 }
@@ -567,26 +692,30 @@ fn refused_numbers(code: u32, position: u32) -> raw::Answer {
     }
 }
 
-/// They meet 255 in a step and a run, after 18, 1, 2 and 3, and nothing changes.
+/// They meet 255 in a step and a run, after 18, 1, 2, 3 and 20, and nothing changes.
 #[test]
 fn no_record_in_steps_and_runs() {
     let refused = |code| refused_numbers(code, if code == 255 { 36 } else { 0 });
     let (odd, short): (&[u8], usize) = (&[0], RAM_LENGTH - 1);
+    let (whole, empty) = (Window::WHOLE, window(9, 9));
     let rows = [
-        (18, 2, odd, short, odd),
-        (18, u32::MAX, &[], RAM_LENGTH, &[]),
-        (1, PROFILE_SMALL, odd, short, odd),
-        (2, PROFILE_FULL, &[], short, odd),
-        (3, PROFILE_SMALL, &[], RAM_LENGTH, odd),
-        (255, PROFILE_FULL, &[], RAM_LENGTH, &[]),
-        (255, PROFILE_SMALL, &[], RAM_LENGTH, &[]),
+        (18, 2, odd, short, odd, BACKWARDS),
+        (18, u32::MAX, &[], RAM_LENGTH, &[], whole),
+        (1, PROFILE_SMALL, odd, short, odd, BACKWARDS),
+        (2, PROFILE_FULL, &[], short, odd, BACKWARDS),
+        (3, PROFILE_SMALL, &[], RAM_LENGTH, odd, BACKWARDS),
+        (20, PROFILE_SMALL, &[], RAM_LENGTH, &[], BACKWARDS),
+        (20, PROFILE_FULL, &[], RAM_LENGTH, &[], window(0, 32_769)),
+        (255, PROFILE_FULL, &[], RAM_LENGTH, &[], whole),
+        (255, PROFILE_SMALL, &[], RAM_LENGTH, &[], empty),
     ];
     let (mut ram, mut bytes) = (filled_ram(), NO_RECORD);
-    for (code, profile, page, length, external) in rows {
+    for (code, profile, page, length, external, window) in rows {
         let ram = &mut ram[..length];
-        let ran = raw::run(page, 0, profile, ram, external, &mut bytes, 9);
+        let ran = raw::run(page, 0, profile, ram, external, window, &mut bytes, 9);
         assert_eq!((ran, bytes), (refused(code), NO_RECORD));
-        let stepped = raw::step(page, u64::MAX, profile, ram, external, &mut bytes);
+        let set = u64::MAX;
+        let stepped = raw::step(page, set, profile, ram, external, window, &mut bytes);
         assert_eq!((stepped, bytes), (refused(code), NO_RECORD));
     }
     assert!(ram == filled_ram());
@@ -600,9 +729,11 @@ fn no_record_in_raw_bytes() {
     bytes[43] = 16;
     for (length, position) in [(0, 0), (43, 0), (44, 43)] {
         let (mut ram, refused) = (filled_ram(), refused_numbers(255, position));
-        let record = &mut bytes[..length];
-        assert_eq!(raw::run(&page, 0, 0, &mut ram, &[], record, 9), refused);
-        assert_eq!(raw::step(&page, 0, 0, &mut ram, &[], record), refused);
+        let (record, whole) = (&mut bytes[..length], Window::WHOLE);
+        let ran = raw::run(&page, 0, 0, &mut ram, &[], whole, record, 9);
+        assert_eq!(ran, refused);
+        let stepped = raw::step(&page, 0, 0, &mut ram, &[], whole, record);
+        assert_eq!(stepped, refused);
     }
 }
 

@@ -6,7 +6,7 @@
 use std::hint::black_box;
 use std::time::Instant;
 
-use marshbodkin::raw;
+use marshbodkin::{raw, Window};
 use marshbodkin_check::assemble::{self as asm, page_bytes, Bundle};
 use marshbodkin_check::compare::numbers::in_range;
 use marshbodkin_check::random::{self, Random};
@@ -16,6 +16,7 @@ use marshbodkin_check::second::memory::RAM_SIZE;
 use marshbodkin_check::second::page::Code;
 use marshbodkin_check::second::record::{stored_bytes, Record, STORED};
 use marshbodkin_check::second::rules::Rules;
+use marshbodkin_check::second::setting::Setting;
 use marshbodkin_check::second::short::{LEAST, MOST};
 
 /// Measurements of which the median is taken.
@@ -146,19 +147,15 @@ fn runs(page: &[u8], budget: u32, times: usize) -> Taken {
         || {
             for _ in 0..times {
                 let mut record = stored_bytes(&fresh);
-                let answer = raw::run(black_box(page), 0, 0, &mut ram, &[], &mut record, budget);
+                let (page, window) = (black_box(page), Window::WHOLE);
+                let answer = raw::run(page, 0, 0, &mut ram, &[], window, &mut record, budget);
                 assert_eq!((answer.kind, answer.steps), (0, budget));
             }
         },
         || {
             for _ in 0..times {
-                let answer = run(
-                    Code::plain(black_box(page)),
-                    &mut other,
-                    &[],
-                    &fresh,
-                    budget,
-                );
+                let setting = Setting::new(Code::plain(black_box(page)));
+                let answer = run(setting, &mut other, &fresh, budget);
                 assert_eq!((answer.stop, answer.steps), (Stop::Budget, budget));
             }
         },

@@ -65,7 +65,7 @@ struct Tally {
     pages: u64,
     service: u64,
     literal: u64,
-    faults: [u64; 6],
+    faults: [u64; 7],
     budget: u64,
     refused: BTreeMap<u8, u64>,
 }

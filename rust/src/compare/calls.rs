@@ -1,6 +1,8 @@
 //! Calls on one page that several parts make: all its bundles, any of its places,
-//! and series with refused calls among them; and that two ways end alike.
+//! and series with refused calls among them; that two ways end alike, whole or inside a
+//! window, and that bytes outside one stay.
 
+use super::ranges;
 use super::records;
 use super::report;
 use super::sides::{record_in, Given, Handed, Rams};
@@ -10,6 +12,7 @@ use crate::second::count::is_fit_place;
 use crate::second::page::{Code, Page};
 use crate::second::record::{stored_bytes, Record};
 use crate::second::rules::Rules;
+use crate::second::window::Window;
 
 /// Calls of a series.
 const CALLS: usize = 5;
@@ -58,10 +61,12 @@ pub fn series(
         return Ok(());
     }
     let mut record = stored_bytes(&records::fit(random, 0));
+    let window = ranges::any(random);
     for _ in 0..CALLS {
         let own = Handed {
             code,
             external: &[],
+            window,
             record: &record,
             budget: random.pick(&[1, 1, 2, 5, 40]),
         };
@@ -105,6 +110,7 @@ pub fn from_anywhere(
     let handed = Handed {
         code,
         external: &[],
+        window: ranges::for_run(random, &record),
         record: &stored_bytes(&Record { place, ..record }),
         budget: 30,
     };
@@ -122,4 +128,31 @@ pub fn same_end(names: [&str; 2], handed: &Handed, ends: [(&Given, &Rams); 2]) -
     let found = report::ends(names, handed, sides);
     let [one, other] = names;
     Err(format!("{one} and {other} end differently\n{found}"))
+}
+
+/// The bytes inside a window, and those before it and behind it.
+fn parted(window: Window, ram: &[u8]) -> (&[u8], [&[u8]; 2]) {
+    let (before, rest) = ram.split_at(window.start as usize);
+    let (inside, behind) = rest.split_at((window.end - window.start) as usize);
+    (inside, [before, behind])
+}
+
+/// That two runs in one window, each by its name, end alike: stop, steps, record and the
+/// window's bytes.
+pub fn same_inside(names: [&str; 2], handed: &Handed, ends: [(&Given, &Rams); 2]) -> Same {
+    let inside = |rams: &Rams| parted(handed.window, &rams.library).0.to_vec();
+    let insides = ends.map(|(given, rams)| (given, Rams::new(inside(rams))));
+    let [one, other] = &insides;
+    same_end(names, handed, [(one.0, &one.1), (other.0, &other.1)])
+}
+
+/// That the bytes outside a window are those from before.
+pub fn outside_stays(window: Window, before: &[u8], after: &[u8]) -> Same {
+    if parted(window, before).1 == parted(window, after).1 {
+        return Ok(());
+    }
+    let Window { start, end } = window;
+    Err(format!(
+        "both sides change bytes outside the window {start} to {end}"
+    ))
 }

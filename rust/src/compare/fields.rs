@@ -9,6 +9,7 @@ use crate::assemble::{self as asm, page_bytes};
 use crate::random::Random;
 use crate::second::page::Code;
 use crate::second::record::STORED;
+use crate::second::window::Window;
 use crate::show;
 
 /// How much external data a step has.
@@ -148,6 +149,7 @@ pub fn compare(comparison: &mut Comparison) -> Same {
         let handed = Handed {
             code: Code::plain(&page),
             external: &[0; EXTERNAL],
+            window: Window::WHOLE,
             record: &bytes,
             budget: 1,
         };

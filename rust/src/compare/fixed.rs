@@ -10,6 +10,7 @@ use crate::second::page::Code;
 use crate::second::profile::{FULL, SMALL};
 use crate::second::record::{stored_bytes, Record};
 use crate::second::text::BUDGET;
+use crate::second::window::Window;
 
 /// Most single steps on a page.
 const STEPS: usize = 1000;
@@ -32,6 +33,7 @@ fn one_page(comparison: &mut Comparison, page: &PaperPage) -> Same {
         let handed = Handed {
             code,
             external: &[],
+            window: Window::WHOLE,
             record: &fresh,
             budget: BUDGET,
         };

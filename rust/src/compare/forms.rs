@@ -8,6 +8,7 @@ use crate::assemble::{self as asm, page_bytes};
 use crate::random::Random;
 use crate::second::page::Code;
 use crate::second::record::{stored_bytes, Base, Record, MOST_EXTERNAL, STORED};
+use crate::second::window::Window;
 
 /// How many random records are stored and read back.
 const ROUND_TRIPS: usize = 5000;
@@ -63,6 +64,7 @@ fn step(comparison: &mut Comparison, bytes: &[u8], rams: &mut Rams) -> Same {
     let handed = Handed {
         code: Code::plain(&page),
         external: &[0; 512],
+        window: Window::WHOLE,
         record: bytes,
         budget: 1,
     };

@@ -3,14 +3,16 @@
 //!
 //! - [`sides`]: each call on both sides, and [`report`] for a difference.
 //! - [`short`]: packing and unpacking on both sides, with the way back.
-//! - [`profiles`], [`refusals`], [`fields`], [`packing`], [`unpacking`], [`syscalls`],
-//!   [`exits`], [`slices`], [`forms`], [`reader`], [`steps`], [`pages`], [`fixed`]: the
-//!   parts. Each stops at its first difference.
-//! - [`records`], [`numbers`], [`cases`], [`codes`], [`sets`], [`shapes`] and
-//!   [`lacking`]: what the parts hand over; [`calls`]: what several of them call.
-//! - [`tally`], [`short_tally`] and [`slices_tally`]: what was met; a class that was
-//!   not is a failure too, and so is an answer that its call can't give.
+//! - [`profiles`], [`windows`], [`refusals`], [`fields`], [`packing`], [`unpacking`],
+//!   [`syscalls`], [`exits`], [`sharing`], [`slices`], [`forms`], [`reader`], [`steps`],
+//!   [`pages`], [`fixed`]: the parts. Each stops at its first difference.
+//! - [`records`], [`numbers`], [`cases`], [`busy`], [`codes`], [`sets`], [`ranges`],
+//!   [`shapes`] and [`lacking`]: what the parts hand over; [`reach`]: what an instruction
+//!   accesses; [`calls`]: what several parts call.
+//! - [`tally`], [`short_tally`], [`slices_tally`] and [`windows_tally`]: what was met; a
+//!   class that was not is a failure too, and so is an answer that its call can't give.
 
+pub mod busy;
 pub mod calls;
 pub mod cases;
 pub mod codes;
@@ -23,12 +25,15 @@ pub mod numbers;
 pub mod packing;
 pub mod pages;
 pub mod profiles;
+pub mod ranges;
+pub mod reach;
 pub mod reader;
 pub mod records;
 pub mod refusals;
 pub mod report;
 pub mod sets;
 pub mod shapes;
+pub mod sharing;
 pub mod short;
 pub mod short_tally;
 pub mod sides;
@@ -38,6 +43,8 @@ pub mod steps;
 pub mod syscalls;
 pub mod tally;
 pub mod unpacking;
+pub mod windows;
+pub mod windows_tally;
 
 use crate::second::rules::Rules;
 use tally::Tally;
@@ -58,14 +65,16 @@ type Part = (&'static str, fn(&mut Comparison) -> Same);
 
 /// The parts that meet most kinds soonest come first: a mistake is found there in
 /// a moment.
-const PARTS: [Part; 13] = [
+const PARTS: [Part; 15] = [
     ("profiles", profiles::compare),
+    ("windows", windows::compare),
     ("refusals", refusals::compare),
     ("fields", fields::compare),
     ("packing", packing::compare),
     ("unpacking", unpacking::compare),
     ("syscalls", syscalls::compare),
     ("exits", exits::compare),
+    ("sharing", sharing::compare),
     ("slices", slices::compare),
     ("forms", forms::compare),
     ("reader", reader::compare),

@@ -5,6 +5,7 @@
 use super::calls::{read_all, same_end};
 use super::cases::{self, Scene};
 use super::codes::{self, UNKNOWN};
+use super::ranges::{self, REFUSED};
 use super::records;
 use super::sets;
 use super::sides::{Given, Handed, Rams};
@@ -144,21 +145,23 @@ fn one_page(
 ) -> Same {
     comparison.counts(code)?;
     read_all(comparison, code)?;
-    let fresh = stored_bytes(&Record::fresh());
+    let (fresh, window) = (stored_bytes(&Record::fresh()), ranges::any(random));
     for budget in BUDGETS {
         let handed = Handed {
             code,
             external,
+            window,
             record: &fresh,
             budget,
         };
         comparison.run(&handed, rams)?;
     }
-    let record = stored_bytes(&any_record(random, code.page, external.len()));
+    let record = any_record(random, code.page, external.len());
     let handed = Handed {
         code,
         external,
-        record: &record,
+        window: ranges::for_run(random, &record),
+        record: &stored_bytes(&record),
         budget: random.below(100) as u32,
     };
     comparison.run(&handed, rams)?;
@@ -186,31 +189,39 @@ fn series(
 ) -> Same {
     let mut parts = rams.clone();
     let whole = comparison.run(handed, rams)?;
-    let mut given = Given {
-        record: handed.record.to_vec(),
-        ..whole.clone()
-    };
-    let mut steps = 0;
-    loop {
-        let own = Handed {
-            record: &given.record,
-            budget: handed.budget - steps,
-            ..*handed
-        };
-        given = one_call(comparison, random, &own, &mut parts)?;
-        steps += given.numbers.steps;
-        if given.numbers.kind != 0 || steps == handed.budget {
-            break;
-        }
-    }
-    given.numbers.steps = steps;
+    let given = as_series(comparison, random, handed, &mut parts)?;
     let ends = [(&given, &parts), (&whole, &*rams)];
     same_end(["a series", "one run"], handed, ends)?;
-    if handed.code.profile == SMALL && steps > 1 {
+    if handed.code.profile == SMALL && given.numbers.steps > 1 {
         let met = "a series of several steps equals one run";
         comparison.tally.class(SMALL_PROFILE, met);
     }
     Ok(())
+}
+
+/// The steps of a run as a series of calls, and what they give together: all that the
+/// last gives, but the steps of all.
+pub(super) fn as_series(
+    comparison: &mut Comparison,
+    random: &mut Random,
+    handed: &Handed,
+    rams: &mut Rams,
+) -> Result<Given, String> {
+    let (mut record, mut steps) = (handed.record.to_vec(), 0);
+    loop {
+        let own = Handed {
+            record: &record,
+            budget: handed.budget - steps,
+            ..*handed
+        };
+        let mut given = one_call(comparison, random, &own, rams)?;
+        steps += given.numbers.steps;
+        if given.numbers.kind != 0 || steps == handed.budget {
+            given.numbers.steps = steps;
+            return Ok(given);
+        }
+        record = given.record;
+    }
 }
 
 /// A step or a run with a part of the budget; now and then comes a call before
@@ -222,8 +233,8 @@ fn one_call(
     rams: &mut Rams,
 ) -> Result<Given, String> {
     if random.chance(10) {
-        let code = refused(comparison, random, own.code);
-        comparison.run(&Handed { code, ..*own }, rams)?;
+        let other = refused(comparison, random, own);
+        comparison.run(&other, rams)?;
     }
     match random.pick(&[0, 1, 1, 1, 2, 3, 7, 50, 200]).min(own.budget) {
         1 => comparison.step(&own.with_budget(1), rams),
@@ -231,12 +242,21 @@ fn one_call(
     }
 }
 
-/// Another page, set and profile, or an unknown profile.
-fn refused<'a>(comparison: &mut Comparison, random: &mut Random, own: Code<'a>) -> Code<'a> {
-    if random.chance(50) {
-        return codes::any(random, &own.page[..own.page.len().min(3)]);
-    }
-    let unknown = own.under(random.pick(&UNKNOWN));
-    comparison.tally.refused_in_series(own, unknown);
-    unknown
+/// The call with another page, set and profile, an unknown profile, or a window that is
+/// refused.
+fn refused<'a>(comparison: &mut Comparison, random: &mut Random, own: &Handed<'a>) -> Handed<'a> {
+    let code = match random.below(3) {
+        0 => codes::any(random, &own.code.page[..own.code.page.len().min(3)]),
+        1 => {
+            let unknown = own.code.under(random.pick(&UNKNOWN));
+            comparison.tally.refused_in_series(own.code, unknown);
+            unknown
+        }
+        _ => {
+            comparison.tally.window_refused_in_series(own.window);
+            let window = random.pick(&REFUSED);
+            return Handed { window, ..*own };
+        }
+    };
+    Handed { code, ..*own }
 }

@@ -18,6 +18,7 @@ use crate::random::{self, Random};
 use crate::second::page::Code;
 use crate::second::profile::{FULL, SMALL};
 use crate::second::record::{stored_bytes, Record};
+use crate::second::window::Window;
 
 /// 32-bit instructions in each shape.
 const WIDE_BUNDLES: usize = 60;
@@ -96,6 +97,7 @@ fn both_profiles(
         let handed = Handed {
             code: code.under(profile),
             external: &[],
+            window: Window::WHOLE,
             record: &bytes,
             budget: 1,
         };

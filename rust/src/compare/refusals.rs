@@ -3,6 +3,7 @@
 //! side, and so is that nothing lent changes.
 
 use super::codes::{self, UNKNOWN};
+use super::ranges::{self, ALLOWED, REFUSED};
 use super::records::{self, SPOILS};
 use super::sides::{Handed, Rams, Told, NO_RECORD};
 use super::steps::noise;
@@ -12,6 +13,7 @@ use crate::random::Random;
 use crate::second::memory::RAM_SIZE;
 use crate::second::page::Code;
 use crate::second::record::{stored_bytes, Base, Record, MOST_EXTERNAL, STORED};
+use crate::second::window::Window;
 
 /// How often each choice of wrong things is made; bytes are spoilt in every way,
 /// by turns.
@@ -19,8 +21,10 @@ const TIMES: usize = 2 * SPOILS.len();
 /// Most bytes of external data.
 const MOST: usize = MOST_EXTERNAL as usize;
 
+/// 02's refusal of a window.
+const WINDOW: u32 = 20;
 /// The refusals of a step and a run, in the papers' order, with the library's own.
-const ORDER: [u32; 10] = [18, 1, 2, 3, NO_RECORD, 41, 42, 43, 44, 5];
+const ORDER: [u32; 11] = [18, 1, 2, 3, WINDOW, NO_RECORD, 41, 42, 43, 44, 5];
 
 /// A choice of wrong things: bit n stands for the n-th refusal of the order.
 #[derive(Clone, Copy)]
@@ -42,6 +46,13 @@ impl Wrong {
     fn has(self, number: u32) -> bool {
         let mut chosen = (0..).zip(ORDER).filter(|(bit, _)| self.0 >> bit & 1 == 1);
         chosen.any(|(_, chosen)| chosen == number)
+    }
+
+    /// What is wrong beside the window, if that is, and one thing alone.
+    fn beside_window(self) -> Option<u32> {
+        let pair = self.has(WINDOW) && self.0.count_ones() == 2;
+        let mut others = ORDER.into_iter().filter(|&number| number != WINDOW);
+        others.find(|&number| pair && self.has(number))
     }
 
     /// What is told of the first wrong thing, with bytes spoilt at these positions.
@@ -142,6 +153,15 @@ fn profile(random: &mut Random, wrong: bool, time: usize) -> u32 {
     }
 }
 
+/// A window; each that is refused, and each at an edge of what is allowed, by turns.
+fn window(random: &mut Random, wrong: bool, time: usize) -> Window {
+    match (wrong, time % 2) {
+        (true, _) => REFUSED[time % REFUSED.len()],
+        (false, 0) => ALLOWED[time / 2 % ALLOWED.len()],
+        (false, _) => ranges::any(random),
+    }
+}
+
 /// A step and a run with some things wrong.
 fn together(
     comparison: &mut Comparison,
@@ -153,7 +173,11 @@ fn together(
     let papers = wrong.told(spoilt(time));
     with_wrong(random, wrong, time, external, |_, handed, rams| {
         run_and_step(comparison, handed, rams, papers)
-    })
+    })?;
+    if let Some(other) = wrong.beside_window() {
+        comparison.tally.beside_window(other);
+    }
+    Ok(())
 }
 
 /// Where bytes are spoilt, by turns.
@@ -180,11 +204,12 @@ pub(super) fn with_wrong(
     let handed = Handed {
         code: codes::any(random, &page).under(profile),
         external: &external[..length],
+        window: window(random, wrong.has(WINDOW), time),
         record: &record,
         budget: random.pick(&[0, 1, 5, u32::MAX]),
     };
     calls(random, &handed, &mut rams)
-        .map_err(|found| format!("wrong things {:010b}: {found}", wrong.0))
+        .map_err(|found| format!("wrong things {:011b}: {found}", wrong.0))
 }
 
 /// A run and a step whose answer is known from the papers. Refused, they change
@@ -224,6 +249,7 @@ fn ends_of_external(comparison: &mut Comparison, random: &mut Random, external: 
         let handed = Handed {
             code: codes::any(random, &page),
             external,
+            window: ranges::any(random),
             record: &record,
             budget: 5,
         };
@@ -287,6 +313,7 @@ fn most_external(comparison: &mut Comparison, random: &mut Random, external: &[u
         let handed = Handed {
             code: Code::plain(&page),
             external,
+            window: ranges::any(random),
             record: &stored_bytes(&record),
             budget: 4,
         };

@@ -42,12 +42,14 @@ pub fn ends(names: [&str; 2], handed: &Handed, sides: [(&Given, &[u8]); 2]) -> S
 /// What a step or a run was handed.
 fn handed_over(handed: &Handed, ram: usize) -> String {
     format!(
-        "{}record ({} bytes): {}\n{}budget {}, RAM of {ram} bytes\nexternal ({} bytes): {}\n",
+        "{}record ({} bytes): {}\n{}budget {}, RAM of {ram} bytes, window {} to {}\nexternal ({} bytes): {}\n",
         code(handed.code),
         handed.record.len(),
         show::bytes(handed.record),
         fields(handed.record),
         handed.budget,
+        handed.window.start,
+        handed.window.end,
         handed.external.len(),
         external(handed),
     )

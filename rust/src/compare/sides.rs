@@ -14,6 +14,8 @@ use crate::second::profile::{FULL, SMALL};
 use crate::second::record::{given, read_back, store_bytes, stored_bytes, Base, Record, STORED};
 use crate::second::refusal::Refusal;
 use crate::second::rules::Rules;
+use crate::second::setting::Setting;
+use crate::second::window::Window;
 
 /// The library's own number: the bytes hold no record.
 pub const NO_RECORD: u32 = 255;
@@ -65,6 +67,7 @@ impl Told {
 pub struct Handed<'a> {
     pub code: Code<'a>,
     pub external: &'a [u8],
+    pub window: Window,
     pub record: &'a [u8],
     pub budget: u32,
 }
@@ -73,6 +76,15 @@ impl<'a> Handed<'a> {
     /// The same with another budget.
     pub fn with_budget(self, budget: u32) -> Handed<'a> {
         Handed { budget, ..self }
+    }
+
+    /// The part of it that is a setting.
+    fn setting(&self) -> Setting<'a> {
+        Setting {
+            code: self.code,
+            external: self.external,
+            window: self.window,
+        }
     }
 }
 
@@ -153,8 +165,7 @@ fn numbers(stop: Stop, steps: u32) -> Numbers {
 /// A run of the second program.
 fn second_run(rules: Rules, handed: &Handed, ram: &mut [u8]) -> Given {
     let mut record = handed.record.to_vec();
-    let (code, external, budget) = (handed.code, handed.external, handed.budget);
-    let (stop, steps) = run_bytes(rules, code, ram, external, &mut record, budget);
+    let (stop, steps) = run_bytes(rules, handed.setting(), ram, &mut record, handed.budget);
     let numbers = numbers(stop, steps);
     Given { numbers, record }
 }
@@ -164,12 +175,29 @@ fn library_code(code: Code<'_>) -> (&[u8], u64, u32) {
     (code.page, code.never_return.0, code.profile)
 }
 
+/// A window as the library takes it.
+fn library_window(window: Window) -> marshbodkin::Window {
+    marshbodkin::Window {
+        start: window.start,
+        end: window.end,
+    }
+}
+
 /// A run of the library.
 fn library_run(handed: &Handed, ram: &mut [u8]) -> Given {
     let mut record = handed.record.to_vec();
     let (page, set, profile) = library_code(handed.code);
-    let (external, budget) = (handed.external, handed.budget);
-    let numbers = raw::run(page, set, profile, ram, external, &mut record, budget);
+    let window = library_window(handed.window);
+    let numbers = raw::run(
+        page,
+        set,
+        profile,
+        ram,
+        handed.external,
+        window,
+        &mut record,
+        handed.budget,
+    );
     Given { numbers, record }
 }
 
@@ -177,7 +205,9 @@ fn library_run(handed: &Handed, ram: &mut [u8]) -> Given {
 fn library_step(handed: &Handed, ram: &mut [u8]) -> Given {
     let mut record = handed.record.to_vec();
     let (page, set, profile) = library_code(handed.code);
-    let numbers = raw::step(page, set, profile, ram, handed.external, &mut record);
+    let window = library_window(handed.window);
+    let external = handed.external;
+    let numbers = raw::step(page, set, profile, ram, external, window, &mut record);
     Given { numbers, record }
 }
 
@@ -264,6 +294,7 @@ impl Comparison {
         }
         self.tally.stop("step", handed, &second);
         self.tally.instruction(handed, &second);
+        self.tally.reached(handed, &second);
         Ok(second)
     }
 

@@ -6,8 +6,9 @@
 use marshbodkin::raw::Answer as Numbers;
 
 use super::calls::same_end;
-use super::cases;
+use super::cases::{self, Case};
 use super::pages::{any_page, any_record, profile_for};
+use super::ranges;
 use super::records::{self, SPOILS};
 use super::refusals::{with_wrong, Wrong};
 use super::sets;
@@ -53,29 +54,32 @@ pub fn compare(comparison: &mut Comparison) -> Same {
     Ok(())
 }
 
-/// A run of any page, or one that calculations lead to an edge.
+/// One random run.
 fn random_run(comparison: &mut Comparison, number: u64, external: &[u8], rams: &mut Rams) -> Same {
     let mut random = Random::of_page(comparison.seed, (17 << 40) + number);
     let external = &external[..256 * random.below(5)];
-    let (page, profile, record) = match number % 2 {
-        0 => {
-            let (page, profile) = any_page(&mut random, comparison.seed, number / 2);
-            let record = started(&mut random, &page, external.len());
-            (page, profile, record)
-        }
-        _ => {
-            let mut case = cases::led_to(&mut random, external.len());
-            let profile = profile_for(&mut random, &mut case.page);
-            (case.page, profile, case.record)
-        }
-    };
+    let (case, profile) = any_run(&mut random, comparison.seed, number, external.len());
     let handed = Handed {
-        code: Code::new(&page, sets::any(&mut random)).under(profile),
+        code: Code::new(&case.page, sets::any(&mut random)).under(profile),
         external,
-        record: &stored_bytes(&record),
+        window: ranges::for_run(&mut random, &case.record),
+        record: &stored_bytes(&case.record),
         budget: WHOLE,
     };
     one_run(comparison, &mut random, &handed, rams)
+}
+
+/// A page and a record to run it from, and the profile that it is for: any page by
+/// turns with one on which calculations lead to an edge.
+pub(super) fn any_run(random: &mut Random, seed: u64, number: u64, external: usize) -> (Case, u32) {
+    if number.is_multiple_of(2) {
+        let (page, profile) = any_page(random, seed, number / 2);
+        let record = started(random, &page, external);
+        return (Case { page, record }, profile);
+    }
+    let mut case = cases::led_to(random, external);
+    let profile = profile_for(random, &mut case.page);
+    (case, profile)
 }
 
 /// A fit record at the page's start, or at a place that may be fit.

@@ -3,6 +3,8 @@
 
 use super::cases;
 use super::codes;
+use super::ranges::{self, REFUSED};
+use super::reach::Reach;
 use super::records::{self, EDGES};
 use super::sets;
 use super::sides::{Handed, Rams};
@@ -14,6 +16,7 @@ use crate::second::memory::RAM_SIZE;
 use crate::second::page::Code;
 use crate::second::profile::{FULL, SMALL};
 use crate::second::record::{stored_bytes, Record};
+use crate::second::window::Window;
 
 /// Random cases; most of them are accepted.
 const CASES: u64 = 300_000;
@@ -57,9 +60,11 @@ fn random_step(
         let positions = random.pick(&records::SPOILS);
         records::spoil(&mut random, &mut record, positions);
     }
+    let code = codes::any(&mut random, &case.page);
     let handed = Handed {
-        code: codes::any(&mut random, &case.page),
+        code,
         external,
+        window: window(&mut random, code, &case.record),
         record: &record,
         budget: 1,
     };
@@ -68,6 +73,16 @@ fn random_step(
         comparison.tally.class("amounts", "random steps");
     }
     Ok(())
+}
+
+/// A window for a step, often with its edges near those of the access; few are
+/// refused.
+fn window(random: &mut Random, code: Code, record: &Record) -> Window {
+    match (random.below(200), Reach::of(code, record)) {
+        (0, _) => random.pick(&REFUSED),
+        (1..=60, Some(reach)) => ranges::at_edges(random, reach),
+        _ => ranges::any(random),
+    }
 }
 
 /// Every 16-bit halfword, at either half of a bundle from which all of cbz and
@@ -95,6 +110,7 @@ fn every_halfword(
             let handed = Handed {
                 code: Code::new(&page, sets::any(random)).under(profile),
                 external,
+                window: ranges::any(random),
                 record: &stored_bytes(&record),
                 budget: 1,
             };
@@ -133,6 +149,7 @@ fn step_of(
     let handed = Handed {
         code: Code::plain(&page).under(profile),
         external: &[],
+        window: Window::WHOLE,
         record: &record,
         budget: 1,
     };

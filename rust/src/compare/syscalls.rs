@@ -15,6 +15,7 @@ use crate::assemble::{self as asm, page_bytes, Bundle};
 use crate::random::{self, Random};
 use crate::second::page::{Code, NeverReturn};
 use crate::second::record::{stored_bytes, Record};
+use crate::second::window::Window;
 
 /// Crowded pages.
 const PAGES: usize = 1500;
@@ -76,6 +77,7 @@ fn both_ways(
         let handed = Handed {
             code,
             external: &[],
+            window: Window::WHOLE,
             record: &bytes,
             budget: 1,
         };

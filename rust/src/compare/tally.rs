@@ -10,6 +10,7 @@ use super::sets;
 use super::short_tally;
 use super::sides::{record_in, Given, Handed, Told, NO_RECORD};
 use super::slices_tally;
+use super::windows_tally;
 use crate::assemble as asm;
 use crate::names::{self, BAD_WORDS, NARROW, SERVICES, WIDE, WORDS};
 use crate::second::count::{is_fit_place, read_bundle, starts_with_terminator, Reading};
@@ -25,6 +26,10 @@ pub const LEAST_PAGES: u64 = 20_000;
 const LEAST_SLICED: u64 = 5_000;
 /// What they are counted by.
 pub const SLICED: &str = "cuts into three slices or more";
+/// Pairs of runs on RAMs that differ outside a window that had to be made.
+const LEAST_PAIRS: u64 = 2_000;
+/// What they are counted by.
+pub const PAIRS: &str = "pairs of RAMs that differ outside a window";
 
 /// The call of a run that is made again with a larger budget.
 pub const LARGER: &str = "larger budget";
@@ -91,13 +96,14 @@ pub const OF_UNPACKING: [Told; 16] = [
     Told::plain(9),
 ];
 /// 255 by a wrong length, and at every field that no record has.
-const OF_A_RUN: [Told; 14] = [
+const OF_A_RUN: [Told; 15] = [
     Told::ACCEPTED,
     Told::plain(1),
     Told::plain(2),
     Told::plain(3),
     Told::plain(5),
     Told::plain(18),
+    Told::plain(20),
     Told::plain(41),
     Told::plain(42),
     Told::plain(43),
@@ -111,10 +117,10 @@ const OF_A_RUN: [Told; 14] = [
 pub const STOPS: [&str; 6] = ["budget", "service", "literal", "fault", MARK, "refused"];
 /// The kind that is never met.
 const MARK: &str = "mark";
-pub const FAULTS: [&str; 6] = ["1", "2", "3", "4", "5", "6"];
+pub const FAULTS: [&str; 7] = ["1", "2", "3", "4", "5", "6", "7"];
 /// Those of loads and stores by r8 and r9, and the rest.
 const FAULTS_OF_BASES: [&str; 3] = ["1", "2", "3"];
-const OTHER_FAULTS: [&str; 3] = ["4", "5", "6"];
+const OTHER_FAULTS: [&str; 4] = ["4", "5", "6", "7"];
 const READINGS: [&str; 3] = ["bad", "none", "largest"];
 pub const BASES: [&str; 3] = ["none", "RAM", "external"];
 pub const PLACES: [&str; 2] = ["even", "odd"];
@@ -202,7 +208,7 @@ impl Tally {
         *self.classes.entry((group, name)).or_default() += 1;
     }
 
-    /// Counts a step or a run by its stop, its set and its profile.
+    /// Counts a step or a run by its stop, its set, its profile and its window.
     pub fn stop(&mut self, call: &'static str, handed: &Handed, given: &Given) {
         let (code, numbers) = (handed.code, &given.numbers);
         self.call(call, given.told());
@@ -213,6 +219,7 @@ impl Tally {
         self.set("sets run", handed.code);
         self.profile("profiles run", handed.code);
         self.syscall_met(call, handed.code, given);
+        self.window(handed.window, given);
     }
 
     /// Counts a stop, and a fault by its number, in these groups.
@@ -292,12 +299,14 @@ impl Tally {
         let never = lacking().map(|name| (SMALL_EXECUTED, name));
         let never = never.chain(FAULTS_OF_BASES.map(|name| (SMALL_FAULTS, name)));
         let never = never.chain(short_tally::NEVER);
+        let never = never.chain(windows_tally::never());
         let met = never.filter(|&(group, name)| self.met(group, name) > 0);
         failures.extend(met.map(|(group, name)| format!("{group}: {name} was met")));
         let amounts = [
             ("random steps", LEAST_STEPS),
             ("pages", LEAST_PAGES),
             (SLICED, LEAST_SLICED),
+            (PAIRS, LEAST_PAIRS),
         ];
         for (name, least) in amounts {
             let met = self.met("amounts", name);
@@ -510,6 +519,7 @@ fn required() -> Vec<(&'static str, &'static str)> {
         .chain(required_of_profiles())
         .chain(short_tally::required())
         .chain(slices_tally::required())
+        .chain(windows_tally::required())
         .collect()
 }
 

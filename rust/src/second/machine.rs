@@ -1,15 +1,17 @@
-//! Steps and runs, with their refusals, 18, 1 to 3, 41 to 44 and 5, and the
+//! Steps and runs, with their refusals, 18, 1 to 3, 20, 41 to 44 and 5, and the
 //! library's own 255, faults and stops.
 
 use super::arith::{add_with_carry, multiply, sdiv, shift_c, sign_extend, udiv, Shift};
 use super::count::{branch_target, is_fit_place};
-use super::decode::{opens_wide, DataOp, Instruction, Operand, Register};
-use super::memory::{self, Fault};
-use super::page::{Code, Page};
+use super::decode::{opens_wide, BaseRegister, DataOp, Instruction, Operand, Register, Size};
+use super::memory::{is_external_length, ByBase, Fault, Memory, RAM_SIZE};
+use super::page::Page;
 use super::record::{given, stored_bytes, Base, Record};
 use super::refusal::Refusal;
 use super::rules::Rules;
 use super::services::{literal_service, Action, Service};
+use super::setting::Setting;
+use super::window::Window;
 
 /// Why a run ended.
 #[derive(Clone, Copy, Debug, PartialEq, Eq)]
@@ -46,34 +48,43 @@ pub struct Answer {
 }
 
 /// One step: a run with budget 1.
-pub fn step(code: Code, ram: &mut [u8], external: &[u8], record: &Record) -> Answer {
-    run(code, ram, external, record, 1)
+pub fn step(setting: Setting, ram: &mut [u8], record: &Record) -> Answer {
+    run(setting, ram, record, 1)
 }
 
 /// A run with a budget.
-pub fn run(code: Code, ram: &mut [u8], external: &[u8], record: &Record, budget: u32) -> Answer {
-    run_by(Rules::RIGHT, code, ram, external, record, budget)
+pub fn run(setting: Setting, ram: &mut [u8], record: &Record, budget: u32) -> Answer {
+    run_by(Rules::RIGHT, setting, ram, record, budget)
 }
 
 /// A run by other rules.
 pub fn run_by(
     rules: Rules,
-    code: Code,
+    setting: Setting,
     ram: &mut [u8],
-    external: &[u8],
     record: &Record,
     budget: u32,
 ) -> Answer {
-    match accept(rules, code, ram, external, record) {
-        Err(number) => Answer {
+    let call = Call {
+        rules,
+        setting,
+        ram: ram.len(),
+        record: Ok(record),
+    };
+    match (rules.accept)(call) {
+        Err(refusal) => Answer {
             record: record.clone(),
             steps: 0,
-            stop: Stop::Refused(Refusal::plain(number)),
+            stop: Stop::Refused(refusal),
         },
         Ok(page) => Machine {
             page,
-            external,
-            ram,
+            memory: Memory {
+                ram,
+                external: setting.external,
+                window: setting.window,
+                rules: rules.memory,
+            },
             record: record.clone(),
             rules,
         }
@@ -83,53 +94,70 @@ pub fn run_by(
 
 /// A run on the bytes of a record, as the library takes and leaves them: the stop
 /// and the steps. If they hold no record, that is refused after what is wrong with
-/// the areas lent.
+/// the areas lent and with the window.
 pub fn run_bytes(
     rules: Rules,
-    code: Code,
+    setting: Setting,
     ram: &mut [u8],
-    external: &[u8],
     bytes: &mut [u8],
     budget: u32,
 ) -> (Stop, u32) {
     match given(rules, bytes) {
         Ok(record) => {
-            let answer = run_by(rules, code, ram, external, &record, budget);
+            let answer = run_by(rules, setting, ram, &record, budget);
             bytes.copy_from_slice(&stored_bytes(&answer.record));
             (answer.stop, answer.steps)
         }
         Err(no_record) => {
-            let lent = areas(rules, code, ram, external);
-            let refusal = lent.err().map_or(no_record, Refusal::plain);
+            let call = Call {
+                rules,
+                setting,
+                ram: ram.len(),
+                record: Err(no_record),
+            };
+            let refusal = (rules.accept)(call).err().unwrap_or(no_record);
             (Stop::Refused(refusal), 0)
         }
     }
 }
 
-/// The refusals of the areas that a step or a run is lent, in order.
-fn areas<'a>(rules: Rules, code: Code<'a>, ram: &[u8], external: &[u8]) -> Result<Page<'a>, u8> {
-    let page = (rules.run)(code)?;
-    if ram.len() != memory::RAM_SIZE {
-        return Err(2);
+/// What decides whether a step or a run is refused.
+#[derive(Clone, Copy)]
+pub struct Call<'a> {
+    pub rules: Rules,
+    pub setting: Setting<'a>,
+    /// How many bytes of RAM there are.
+    pub ram: usize,
+    /// The record, or the refusal of bytes that hold none.
+    pub record: Result<&'a Record, Refusal>,
+}
+
+impl Call<'_> {
+    /// The same within another window.
+    pub fn within(self, window: Window) -> Self {
+        let setting = self.setting.within(window);
+        Call { setting, ..self }
     }
-    if !memory::is_external_length(external.len()) {
-        return Err(3);
-    }
-    Ok(page)
 }
 
 /// All refusals of a step or a run, in order.
-fn accept<'a>(
-    rules: Rules,
-    code: Code<'a>,
-    ram: &[u8],
-    external: &[u8],
-    record: &Record,
-) -> Result<Page<'a>, u8> {
-    let page = areas(rules, code, ram, external)?;
+pub fn accept(call: Call) -> Result<Page, Refusal> {
+    let Call { rules, setting, .. } = call;
+    let external = setting.external.len();
+    let page = (rules.run)(setting.code).map_err(Refusal::plain)?;
+    if call.ram != RAM_SIZE {
+        return Err(Refusal::plain(2));
+    }
+    if !is_external_length(external) {
+        return Err(Refusal::plain(3));
+    }
+    if !setting.window.is_allowed() {
+        return Err(Refusal::plain(20));
+    }
+    let record = call.record?;
     let place_is_fit = is_fit_place(rules, page, usize::from(record.place));
-    match (rules.unfit)(record, external.len(), place_is_fit) {
-        Some(number) => Err(number),
+    match (rules.unfit)(record, external, place_is_fit) {
+        Some(number) => Err(Refusal::plain(number)),
         None => Ok(page),
     }
 }
@@ -163,8 +191,7 @@ impl From<Fault> for Halt {
 /// A machine within one call.
 struct Machine<'a> {
     page: Page<'a>,
-    external: &'a [u8],
-    ram: &'a mut [u8],
+    memory: Memory<'a>,
     record: Record,
     rules: Rules,
 }
@@ -427,14 +454,15 @@ impl Machine<'_> {
                 self.write(t, value);
             }
             Instruction::StackStore { t, offset } => {
-                memory::stack_store(sp, offset, self.r(t), self.ram)?;
+                self.memory.stack_store(sp, offset, self.r(t))?;
             }
             Instruction::StackLoad { t, offset } => {
-                let value = memory::stack_load(sp, offset, self.ram)?;
+                let value = self.memory.stack_load(sp, offset)?;
                 self.write(t, value);
             }
             Instruction::Store { size, t, offset } => {
-                memory::store(self.record.base, offset, size, self.r(t), self.ram)?;
+                let given = self.by_base(BaseRegister::R9, offset, size);
+                self.memory.store(given, self.r(t))?;
             }
             Instruction::Load {
                 size,
@@ -443,13 +471,22 @@ impl Machine<'_> {
                 t,
                 offset,
             } => {
-                let from = self.record.base;
-                let raw = memory::load(from, base, offset, size, self.ram, self.external)?;
+                let raw = self.memory.load(self.by_base(base, offset, size))?;
                 self.write(t, extend(raw, 8 * size.bytes() as u32, signed));
             }
             _ => {}
         }
         Ok(())
+    }
+
+    /// An access by the record's base.
+    fn by_base(&self, by: BaseRegister, offset: usize, size: Size) -> ByBase {
+        ByBase {
+            base: self.record.base,
+            by,
+            offset,
+            size,
+        }
     }
 
     /// A service: by its low byte or by its literal word.
@@ -475,20 +512,17 @@ impl Machine<'_> {
     /// What a service does; the answer is the base it leaves.
     fn act(&mut self, action: Action) -> Result<Base, Fault> {
         let sp = self.record.sp;
+        let external = self.memory.external.len();
         match action {
             Action::Exit(_) | Action::Preload => {}
-            Action::SetBaseFrom(n) => {
-                return Ok((self.rules.validate)(self.r(n), self.external.len()));
-            }
-            Action::SetBase(address) => {
-                return Ok((self.rules.validate)(address, self.external.len()));
-            }
-            Action::LowerStack(bytes) => self.record.sp = memory::lower_stack(sp, bytes)?,
+            Action::SetBaseFrom(n) => return Ok((self.rules.validate)(self.r(n), external)),
+            Action::SetBase(address) => return Ok((self.rules.validate)(address, external)),
+            Action::LowerStack(bytes) => self.record.sp = self.memory.lower_stack(sp, bytes)?,
             Action::StackStore { register, offset } => {
-                memory::stack_store(sp, offset, self.r(register), self.ram)?;
+                self.memory.stack_store(sp, offset, self.r(register))?;
             }
             Action::StackLoad { register, offset } => {
-                let value = memory::stack_load(sp, offset, self.ram)?;
+                let value = self.memory.stack_load(sp, offset)?;
                 self.write(register, value);
             }
         }

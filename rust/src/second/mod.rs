@@ -1,5 +1,5 @@
 //! The second program: decoder, profiles, arithmetic, services, count, records and
-//! their two stored forms, machine, text.
+//! their two stored forms, settings with their windows, machine, text.
 
 pub mod arith;
 pub mod count;
@@ -14,5 +14,7 @@ pub mod record;
 pub mod refusal;
 pub mod rules;
 pub mod services;
+pub mod setting;
 pub mod short;
 pub mod text;
+pub mod window;

@@ -4,9 +4,11 @@
 use super::arith::{condition_passed, Flags};
 use super::count::{count, read_bundle, Reading};
 use super::exits::{exit_of, Exit};
-use super::memory::validate;
+use super::machine::{accept, Call};
+use super::memory::{validate, MemoryRules};
 use super::page::{Code, NeverReturn, Page};
 use super::record::{unfit, Base, Fields, Record};
+use super::refusal::Refusal;
 use super::short::ShortRules;
 
 /// One rule of each kind.
@@ -23,6 +25,8 @@ pub struct Rules {
     pub counted: fn(Code) -> Result<Page, u8>,
     /// The same for a step or a run.
     pub run: fn(Code) -> Result<Page, u8>,
+    /// The page of a step or a run, or why it is refused.
+    pub accept: fn(Call) -> Result<Page, Refusal>,
     /// How many steps a budget allows.
     pub allowed: fn(u32) -> u32,
     /// Whether the place stays at an exit.
@@ -38,6 +42,8 @@ pub struct Rules {
     pub no_record: fn(&Fields) -> Option<u8>,
     /// The exit of a low byte and its literal, if it is one.
     pub exit: fn(u32, u32) -> Option<Exit>,
+    /// Those of loads, stores and SP moves.
+    pub memory: MemoryRules,
     /// Those of the short stored form.
     pub short: ShortRules,
 }
@@ -50,6 +56,7 @@ impl Rules {
         count,
         counted: |code| Page::new(code),
         run: |code| Page::new(code),
+        accept,
         allowed: |budget| budget,
         stays: Exit::is_terminator,
         validate,
@@ -57,6 +64,7 @@ impl Rules {
         out_of_range: |fields| fields.out_of_range().first().copied(),
         no_record: |fields| fields.of_no_record().first().copied(),
         exit: exit_of,
+        memory: MemoryRules::RIGHT,
         short: ShortRules::RIGHT,
     };
 }

@@ -1,6 +1,7 @@
 //! What the lister and the runner print for a page, and what the programs that pack
 //! and unpack print for a stored record, to the byte. The first two give the empty
-//! set of syscalls that never return and the full profile.
+//! set of syscalls that never return and the full profile, the runner all of RAM as
+//! its window.
 
 use super::arith::Flags;
 use super::count::Reading;
@@ -10,6 +11,7 @@ use super::page::{Code, Page};
 use super::record::{Record, STORED};
 use super::refusal::Refusal;
 use super::rules::Rules;
+use super::setting::Setting;
 use super::short::MOST;
 
 /// The runner's budget.
@@ -45,8 +47,8 @@ fn listed_bundle(rules: Rules, page: Page, bundle: usize, count: usize) -> Strin
 /// data.
 pub fn runner_answer(rules: Rules, bytes: &[u8]) -> Answer {
     let mut ram = vec![0; RAM_SIZE];
-    let code = Code::plain(bytes);
-    run_by(rules, code, &mut ram, &[], &Record::fresh(), BUDGET)
+    let setting = Setting::new(Code::plain(bytes));
+    run_by(rules, setting, &mut ram, &Record::fresh(), BUDGET)
 }
 
 /// The whole output of the runner.

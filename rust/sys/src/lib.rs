@@ -93,7 +93,8 @@ extern "C" {
     ) -> u32;
 
     /// Runs the record with a budget of steps; the five numbers say why and
-    /// when it stopped.
+    /// when it stopped. Of RAM only the offsets from `window_start` to below
+    /// `window_end` are read and written.
     pub fn mb_raw_run(
         page: *const u8,
         page_length: usize,
@@ -103,6 +104,8 @@ extern "C" {
         ram_length: usize,
         external: *const u8,
         external_length: usize,
+        window_start: u32,
+        window_end: u32,
         record: *mut u8,
         record_length: usize,
         budget: u32,
@@ -123,6 +126,8 @@ extern "C" {
         ram_length: usize,
         external: *const u8,
         external_length: usize,
+        window_start: u32,
+        window_end: u32,
         record: *mut u8,
         record_length: usize,
         kind: *mut u32,
