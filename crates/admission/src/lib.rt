@@ -4,12 +4,22 @@ ghost use mathlib.Core.Path.{_≡_};
 ghost use lib.ListN.{length};
 ghost use Rattle.platform.specs.Programs.{programOf, settingOf};
 ghost use Rattle.refusal.specs.Refusals.{decision, decisionOf};
+ghost use Rattle.state.specs.Validation.{externalRule};
 ghost use Rattle.admission.specs.RunRefusals.{areaRules, placeRule, recordRules, runDecision};
 use platform::Platform;
 use refusal::Refusal;
 use refusal::Verdict;
 use state::Record;
 use window::Window;
+
+fn of_external(external: &[u8]) -> Verdict
+    ensures { λ v. ⌜ decisionOf v ≡ decision (externalRule (length (now (external .entry))) ∷ []) ⌝ }
+{
+    if !state::external_fits(external) {
+        return Verdict::Refused(Refusal::ExternalLength);
+    }
+    Verdict::Accepted
+}
 
 // The profile is known, what is lent has its lengths, and the window lies in RAM.
 pub fn of_areas(
@@ -27,10 +37,9 @@ pub fn of_areas(
     if ram.len() != 32768 {
         return Verdict::Refused(Refusal::RamLength);
     }
-    if !state::external_fits(external) {
-        return Verdict::Refused(Refusal::ExternalLength);
-    }
-    window::of_window(window)
+    let data = of_external(external);
+    let held = window::of_window(window);
+    refusal::first_of(data, held)
 }
 
 fn of_place(page: &[u8], platform: Platform, place: u16) -> Verdict

@@ -62,8 +62,8 @@ pub fn ram_access(window: Window, at: usize, bytes: usize, past: Fault) -> Store
 pub fn ram_load(window: Window, ram: &[u8], at: usize, size: Size, past: Fault) -> Loaded
     ensures { λ r. ⌜ r ≡ ramLoaded window (now (ram .entry)) at size past ⌝ }
 {
-    let access = ram_access(window, at, endian::width(size), past);
-    match access {
+    let read = ram_access(window, at, endian::width(size), past);
+    match read {
         Stored::Done => Loaded::Value(endian::load(ram, at as u32, size)),
         Stored::Fails(fault) => Loaded::Fails(fault),
     }
@@ -80,8 +80,8 @@ pub fn ram_store(
 ) -> Stored
     ensures { λ r. ⌜ (r ≡ ramStored window at size past) × (now (ram .exit) ≡ ramAfter window (now (ram .entry)) at size x) ⌝ }
 {
-    let access = ram_access(window, at, endian::width(size), past);
-    match access {
+    let written = ram_access(window, at, endian::width(size), past);
+    match written {
         Stored::Done => {
             endian::store(ram, at as u32, size, x);
             Stored::Done
@@ -155,14 +155,10 @@ pub fn store_by(
 {
     match base {
         Base::Nothing => Stored::Fails(Fault::NoBase),
-        Base::Ram(offset) => ram_store(
-            window,
-            ram,
-            offset as usize + imm12 as usize,
-            size,
-            x,
-            Fault::PastRam,
-        ),
+        Base::Ram(offset) => {
+            let at = offset as usize + imm12 as usize;
+            ram_store(window, ram, at, size, x, Fault::PastRam)
+        }
         Base::External(_) => Stored::Fails(Fault::NoBase),
     }
 }

@@ -39,15 +39,16 @@ pub fn of_window(w: Window) -> Verdict
 pub fn holds(w: Window, at: usize, bytes: usize) -> bool
     ensures { λ t. ⌜ t ≡ insideWindow w at bytes ⌝ }
 {
-    if at < w.start as usize {
+    let start = w.start as usize;
+    let end = w.end as usize;
+    if at < start {
         return false;
     }
-    let end = w.end as usize;
     if end < bytes {
         return false;
     }
-    if end - bytes < at {
-        return false;
+    if at <= end - bytes {
+        return true;
     }
-    true
+    false
 }

@@ -15,7 +15,7 @@ returns c = rw (c .load .ensures, ← c .before .before .before .before .width .
 
 returns-2 : tie.Need-returns-2
 unfolding ramLoaded
-returns-2 c = rw (← c .before .before .before .before .width .ensures, ← c .before .before .before .ram-access .ensures, c .before .access .given .1)
+returns-2 c = rw (← c .before .before .before .before .width .ensures, ← c .before .before .before .ram-access .ensures, c .before .read .given .1)
 
 pub ram-load-spec : {M : Type 1} → statement M
 ram-load-spec = tie.close (tie.spec (λ c κs. tt) (λ c κs. tt) (λ c. search needs) cast-load (λ c κs. tt)

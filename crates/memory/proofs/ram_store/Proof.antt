@@ -18,7 +18,7 @@ returns c =
 returns-2 : tie.Need-returns-2
 unfolding ramAfter
 returns-2 c =
-    let told = sym (c .before .before .before .ram-access .ensures) ∙ c .before .access .given .1 in
+    let told = sym (c .before .before .before .ram-access .ensures) ∙ c .before .written .given .1 in
     rw (← c .before .before .before .before .width .ensures, told, failed _ _ _ _ _ told) (refl, refl)
 
 pub ram-store-spec : {M : Type 1} → statement M
