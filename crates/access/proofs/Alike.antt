@@ -1,6 +1,5 @@
 -- Loads and stores by two windows and in two related RAMs come to the same.
-use Prim.Native.Nat.{ℕ, _+_, _-_, _*_, _/_, _≤_}
-use native.Mathlib.Omega.{arith}
+use Prim.Native.Nat.{ℕ, _+_, _-_, _*_, _/_}
 use mathlib.Core.Bool.{Bool, true, false, _&&_, cond, true≢false}
 use mathlib.Core.List.{List}
 use mathlib.Core.Path.{_≡_, refl, sym, ap, _∙_}
@@ -57,19 +56,19 @@ module _ (w v : Window) (S : List ℕ → List ℕ → Type 0) (h : Related w v 
     where
       go : (t : Bool) → LoadsAlike w v S h a b s (cond t (loaded.Fails LowStack) (ramLoaded w a (address - 0x10000) Word PastStack))
           (cond t (loaded.Fails LowStack) (ramLoaded v b (address - 0x10000) Word PastStack))
-      go true = fault LowStack (omega arith) refl refl
-      go false = ram-loads w v S h a b s (address - 0x10000) Word PastStack (omega arith)
+      go true = fault LowStack refl refl refl
+      go false = ram-loads w v S h a b s (address - 0x10000) Word PastStack refl
 
   pub stack-load : (t address : ℕ) → OutcomesAlike (loadTo r a t (stackLoaded w a address)) (loadTo r b t (stackLoaded v b address))
   stack-load t address = load-alike t _ _ (stack-loads address)
 
   literal-loads : (page : List ℕ) (place imm8 : ℕ) → LoadsAlike w v S h a b s (literalLoaded page place imm8) (literalLoaded page place imm8)
   unfolding literalLoaded
-  literal-loads page place imm8 = same-loads w v S h a b s (ltb (place / 2 + 1 + imm8) (bundlesIn page)) _ PastPage (omega arith)
+  literal-loads page place imm8 = same-loads w v S h a b s (ltb (place / 2 + 1 + imm8) (bundlesIn page)) _ PastPage refl
 
   -- ---- stores
 
-  ram-stores : (at : ℕ) (size : Size) (past : Fault) (x : ℕ) → faultNumber past ≤ 6
+  ram-stores : (at : ℕ) (size : Size) (past : Fault) (x : ℕ) → eqb (faultNumber past) 7 ≡ false
       → OutcomesAlike (storeWith r (ramStored w at size past) (ramAfter w a at size x)) (storeWith r (ramStored v at size past) (ramAfter v b at size x))
   unfolding ramAccess ramAfter storeWith
   ram-stores at size past x n = go (insideRam at bytes) (insideWindow w at bytes) (insideWindow v at bytes) refl refl refl
@@ -99,16 +98,16 @@ module _ (w v : Window) (S : List ℕ → List ℕ → Type 0) (h : Related w v 
           (cond low ram (ramAfter window ram (address - 0x10000) Word (register r t)))
 
       go : (low : Bool) → OutcomesAlike (stored-by w a low) (stored-by v b low)
-      go true = fault LowStack (omega arith) refl refl
-      go false = ram-stores (address - 0x10000) Word PastStack (register r t) (omega arith)
+      go true = fault LowStack refl refl refl
+      go false = ram-stores (address - 0x10000) Word PastStack (register r t) refl
 
   base-stores : (base : Base) (size : Size) (imm12 x : ℕ)
       → OutcomesAlike (storeWith r (storedBy base w imm12 size) (afterStoreBy base w a imm12 size x))
       (storeWith r (storedBy base v imm12 size) (afterStoreBy base v b imm12 size x))
   unfolding storedBy afterStoreBy storeWith
-  base-stores Nothing size imm12 x = fault NoBase (omega arith) refl refl
-  base-stores (Ram offset) size imm12 x = ram-stores (offset + imm12) size PastRam x (omega arith)
-  base-stores (External offset) size imm12 x = fault NoBase (omega arith) refl refl
+  base-stores Nothing size imm12 x = fault NoBase refl refl refl
+  base-stores (Ram offset) size imm12 x = ram-stores (offset + imm12) size PastRam x refl
+  base-stores (External offset) size imm12 x = fault NoBase refl refl refl
 
   -- ---- every access
 

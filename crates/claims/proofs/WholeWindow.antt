@@ -4,6 +4,7 @@ use native.Mathlib.Omega.{arith}
 use mathlib.Core.Bool.{Bool, true, false, _&&_, cond, true≢false}
 use mathlib.Core.List.{List}
 use mathlib.Core.Path.{_≡_, refl, sym, ap, _∙_}
+use borrow.Author.Tests.{eqb-false}
 use Rattle.refusal.specs.Refusals.{Decision, accepted, refused}
 use Rattle.endian.specs.LittleEndian.{widthOf, loadLE, storeLE}
 use Rattle.endian.specs.declared.Size.{Size}
@@ -80,7 +81,7 @@ never : (S : List ℕ → List ℕ → Type 0) (e f : Effect) → EffectsAlike w
 never S e f (both (goOn r a b p q s)) z = absurd (omega (arith, ap faultIn (sym p ∙ z)))
 never S e f (both (exit x r a b p q s)) z = absurd (omega (arith, ap faultIn (sym p ∙ z)))
 never S e f (both (mark p q)) z = absurd (omega (arith, ap faultIn (sym p ∙ z)))
-never S e f (alike.fault g n p q) z = absurd (omega (arith, n, ap faultIn (sym p ∙ z)))
+never S e f (alike.fault g n p q) z = eqb-false (faultNumber g) 7 n (ap faultIn (sym p ∙ z))
 never S e f (alike.outside at bytes i j p q) z = holds-all at bytes i j
 
 never-runs : (S : List ℕ → List ℕ → Type 0) (x y : Result) → RunsAlike wholeRam wholeRam S x y → x .stop ≡ fault 7 → ⊥

@@ -1,6 +1,5 @@
 -- Services by two windows and in two related RAMs come to the same.
 use Prim.Native.Nat.{ℕ, _+_, _-_, _*_}
-use native.Mathlib.Omega.{arith}
 use mathlib.Core.Bool.{Bool, true, false, cond}
 use mathlib.Core.List.{List}
 use mathlib.Core.Path.{refl, ap}
@@ -37,7 +36,7 @@ module _ (w v : Window) (S : List ℕ → List ℕ → Type 0) (h : Related w v 
       lowered ram low = cond low (fails LowStack) (does (writingSp (writesNothing r) (r .sp - 4 * words)) ram)
 
       go : (low : Bool) → Same (lowered a low) (lowered b low)
-      go true = fault LowStack (omega arith) refl refl
+      go true = fault LowStack refl refl refl
       go false = still w v S h r a b s _
 
   pub services-alike : (external : ℕ) (x : Service) → Same (serviceDoes external w x r a) (serviceDoes external v x r b)

@@ -1,11 +1,10 @@
 -- What accesses come to by two windows and in two RAMs, of which the second window holds what the first does, and the RAMs stay
 -- related: the one law by which reads and writes keep to a window.
-use Prim.Native.Nat.{ℕ, _+_, _%_, _≤_}
-use native.Mathlib.Omega.{arith}
+use Prim.Native.Nat.{ℕ, _+_, _%_}
 use mathlib.Core.Bool.{Bool, true, false, cond, true≢false}
 use mathlib.Core.List.{List}
 use mathlib.Core.Path.{_≡_, refl, sym, ap, _∙_}
-use lib.Dec.{leb}
+use lib.Dec.{leb, eqb}
 use Rattle.endian.specs.LittleEndian.{widthOf, loadLE, storeLE}
 use Rattle.endian.specs.declared.Size.{Size}
 use Rattle.window.specs.Windows.{insideWindow}
@@ -26,8 +25,8 @@ use Rattle.memory.specs.declared.Stored.the-variants as stored
 
 pub data Alike {A : Type 0} (w v : Window) (failing : Fault → A) (Both : A → A → Type 0) (x y : A) : Type 0 where
   both : Both x y → Alike w v failing Both x y
-  -- one of the build paper's faults, in both
-  fault : (f : Fault) → faultNumber f ≤ 6 → x ≡ failing f → y ≡ failing f → Alike w v failing Both x y
+  -- a fault that is no window's, in both
+  fault : (f : Fault) → eqb (faultNumber f) 7 ≡ false → x ≡ failing f → y ≡ failing f → Alike w v failing Both x y
   -- an access in RAM that the first window doesn't hold; both fail so where the second doesn't hold it either
   outside : (at bytes : ℕ) → insideRam at bytes ≡ true → insideWindow w at bytes ≡ false
       → x ≡ failing OutsideWindow → (insideWindow v at bytes ≡ false → y ≡ failing OutsideWindow)
@@ -60,11 +59,11 @@ module _ (w v : Window) (S : List ℕ → List ℕ → Type 0) (h : Related w v 
   LoadsAlike = Alike w v loaded.Fails BothLoaded
 
   -- what doesn't read RAM
-  pub same-loads : (t : Bool) (n : ℕ) (f : Fault) → faultNumber f ≤ 6 → LoadsAlike (cond t (Value n) (loaded.Fails f)) (cond t (Value n) (loaded.Fails f))
+  pub same-loads : (t : Bool) (n : ℕ) (f : Fault) → eqb (faultNumber f) 7 ≡ false → LoadsAlike (cond t (Value n) (loaded.Fails f)) (cond t (Value n) (loaded.Fails f))
   same-loads true n f l = both (n, refl, refl)
   same-loads false n f l = fault f l refl refl
 
-  pub ram-loads : (at : ℕ) (size : Size) (past : Fault) → faultNumber past ≤ 6
+  pub ram-loads : (at : ℕ) (size : Size) (past : Fault) → eqb (faultNumber past) 7 ≡ false
       → LoadsAlike (ramLoaded w a at size past) (ramLoaded v b at size past)
   unfolding ramLoaded ramAccess
   ram-loads at size past n = go (insideRam at bytes) (insideWindow w at bytes) (insideWindow v at bytes) refl refl refl
@@ -84,11 +83,11 @@ module _ (w v : Window) (S : List ℕ → List ℕ → Type 0) (h : Related w v 
   pub base-loads : (base : Base) (needsRam : Bool) (external : List ℕ) (imm12 : ℕ) (size : Size)
       → LoadsAlike (loadedBy base needsRam w a external imm12 size) (loadedBy base needsRam v b external imm12 size)
   unfolding loadedBy externalLoaded
-  base-loads Nothing needsRam external imm12 size = fault NoBase (omega arith) refl refl
-  base-loads (Ram offset) needsRam external imm12 size = ram-loads (offset + imm12) size PastRam (omega arith)
-  base-loads (External offset) true external imm12 size = fault NoBase (omega arith) refl refl
+  base-loads Nothing needsRam external imm12 size = fault NoBase refl refl refl
+  base-loads (Ram offset) needsRam external imm12 size = ram-loads (offset + imm12) size PastRam refl
+  base-loads (External offset) true external imm12 size = fault NoBase refl refl refl
   base-loads (External offset) false external imm12 size =
-      same-loads (leb (offset % 256 + imm12 + widthOf size) 256) _ OffExternalPage (omega arith)
+      same-loads (leb (offset % 256 + imm12 + widthOf size) 256) _ OffExternalPage refl
 
   -- the sign extended
   pub signed-loads : (size : Size) (x y : Loaded) → LoadsAlike x y → LoadsAlike (signedLoaded size x) (signedLoaded size y)

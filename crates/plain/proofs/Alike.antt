@@ -1,9 +1,10 @@
 -- Runs by two definitions of an instruction that are alike, in two related RAMs, end alike.
-use Prim.Native.Nat.{ℕ, zero, suc, _+_, _≤_}
-use native.Mathlib.Omega.{arith}
+use Prim.Native.Nat.{ℕ, zero, suc, _+_}
 use mathlib.Core.Bool.{true, false}
 use mathlib.Core.List.{List}
 use mathlib.Core.Path.{_≡_, refl, ap}
+use lib.Dec.{eqb}
+use borrow.Author.Tests.{eqb-false}
 use Rattle.window.specs.Windows.{insideWindow}
 use Rattle.window.specs.declared.Window.{Window}
 use Rattle.memory.specs.Faults.{faultNumber}
@@ -39,15 +40,15 @@ number stops.unlisted = 0
 number (refused n values) = 0
 
 -- a stop of another number isn't fault 7
-not-seven : (why : Reason) → number why ≤ 6 → why ≡ fault 7 → ⊥
-not-seven why l e = absurd (omega (arith, l, ap number e))
+not-seven : (why : Reason) → eqb (number why) 7 ≡ false → why ≡ fault 7 → ⊥
+not-seven why n e = eqb-false (number why) 7 n (ap number e)
 
 module _ (w v : Window) (S : List ℕ → List ℕ → Type 0) (one other : Record → List ℕ → Effect)
     (same : (r : Record) (a b : List ℕ) → S a b → EffectsAlike w v S (one r a) (other r b)) where
   pub runs-alike : (left steps : ℕ) (r : Record) (a b : List ℕ) → S a b
       → RunsAlike w v S (plain one left steps r a) (plain other left steps r b)
   unfolding plain
-  runs-alike zero steps r a b s = equal (not-seven budget (omega arith)) (record { stop = refl; steps = refl; rec = refl; ram = s })
+  runs-alike zero steps r a b s = equal (not-seven budget refl) (record { stop = refl; steps = refl; rec = refl; ram = s })
   runs-alike (suc left) steps r a b s =
       go (plain one left (steps + 1)) (plain other left (steps + 1)) (runs-alike left (steps + 1)) (one r a) (other r b) (same r a b s)
     where
@@ -57,9 +58,9 @@ module _ (w v : Window) (S : List ℕ → List ℕ → Type 0) (one other : Reco
           → RunsAlike w v S (onward steps r a next e) (onward steps r b next′ f)
       go next next′ rest e f (both (goOn t c d p q h)) = rw (p, q) (rest t c d h)
       go next next′ rest e f (both (exit x t c d p q h)) =
-          rw (p, q) (equal (not-seven (service x) (omega arith)) (record { stop = refl; steps = refl; rec = refl; ram = h }))
+          rw (p, q) (equal (not-seven (service x) refl) (record { stop = refl; steps = refl; rec = refl; ram = h }))
       go next next′ rest e f (both (mark p q)) =
-          rw (p, q) (equal (not-seven stops.unlisted (omega arith)) (record { stop = refl; steps = refl; rec = refl; ram = s }))
+          rw (p, q) (equal (not-seven stops.unlisted refl) (record { stop = refl; steps = refl; rec = refl; ram = s }))
       go next next′ rest e f (alike.fault x n p q) =
           rw (p, q) (equal (not-seven (fault (faultNumber x)) n) (record { stop = refl; steps = refl; rec = refl; ram = s }))
       go next next′ rest e f (alike.outside at bytes i j p q) =
