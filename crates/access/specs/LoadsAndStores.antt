@@ -12,8 +12,8 @@ use Rattle.memory.specs.declared.Fault.the-variants.{PastStack, LowStack, PastP
 use Rattle.memory.specs.declared.Loaded.{Loaded}
 use Rattle.memory.specs.declared.Loaded.the-variants.{Value}
 use Rattle.memory.specs.declared.Loaded.the-variants as loaded
-use Rattle.memory.specs.declared.Stored.{Stored}
-use Rattle.memory.specs.declared.Stored.the-variants as stored
+use Rattle.memory.specs.declared.Attempt.{Attempt}
+use Rattle.memory.specs.declared.Attempt.the-variants as attempt
 use Rattle.isa.specs.declared.Access.{Access}
 use Rattle.isa.specs.declared.Access.the-variants.{LdrLit, StrSp, LdrSp, Str, Strb, Strh, Ldr, Ldrb, Ldrh, Ldrsb, Ldrsh}
 use Rattle.state.specs.Record.{register}
@@ -27,11 +27,11 @@ unfoldable pub stackLoaded : Window → List ℕ → ℕ → Loaded
 stackLoaded window ram address =
     cond (ltb address 0x10000) (loaded.Fails LowStack) (ramLoaded window ram (address - 0x10000) Word PastStack)
 
-unfoldable pub stackStored : Window → ℕ → Stored
-stackStored window address = cond (ltb address 0x10000) (stored.Fails LowStack) (ramStored window (address - 0x10000) Word PastStack)
+unfoldable pub stackStored : Window → ℕ → Attempt
+stackStored window address = cond (ltb address 0x10000) (attempt.Fails LowStack) (ramStored window (address - 0x10000) Word PastStack)
 
 unfoldable pub afterStackStore : Window → List ℕ → ℕ → ℕ → List ℕ
-afterStackStore window ram address x = cond (ltb address 0x10000) ram (ramAfter window ram (address - 0x10000) Word x)
+afterStackStore window ram address x = cond (ltb address 0x10000) ram (ramAfter window ram (address - 0x10000) Word PastStack x)
 
 abbrev pub loadAt : Record → Window → List ℕ → ℕ → ℕ → Outcome
 loadAt r window ram t address = loadTo r ram t (stackLoaded window ram address)

@@ -6,9 +6,9 @@ use Rattle.memory.specs.declared.Fault.{Fault}
 use Rattle.memory.specs.declared.Loaded.{Loaded}
 use Rattle.memory.specs.declared.Loaded.the-variants.{Value}
 use Rattle.memory.specs.declared.Loaded.the-variants as loaded
-use Rattle.memory.specs.declared.Stored.{Stored}
-use Rattle.memory.specs.declared.Stored.the-variants.{Done}
-use Rattle.memory.specs.declared.Stored.the-variants as stored
+use Rattle.memory.specs.declared.Attempt.{Attempt}
+use Rattle.memory.specs.declared.Attempt.the-variants.{Done}
+use Rattle.memory.specs.declared.Attempt.the-variants as attempt
 use Rattle.writing.specs.Writes.{keeping, writesNothing}
 use Rattle.state.specs.declared.Record.{Record}
 use Rattle.writing.specs.declared.Write.the-variants.{Register}
@@ -27,9 +27,9 @@ loadTo r ram t (Value x) = does (keeping r (Register t x) (r .flags)) ram
 loadTo r ram t (loaded.Fails fault) = fails fault
 
 -- a store leaves the RAM after it
-unfoldable pub storeWith : Record → Stored → List ℕ → Outcome
+unfoldable pub storeWith : Record → Attempt → List ℕ → Outcome
 storeWith r Done after = does (writesNothing r) after
-storeWith r (stored.Fails fault) after = fails fault
+storeWith r (attempt.Fails fault) after = fails fault
 
 -- ---- what the code gives back for an outcome
 

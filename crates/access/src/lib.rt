@@ -4,9 +4,9 @@ ghost use Rattle.access.specs.Outcomes.{loadTo, storeWith, didOf, Does, 
 ghost use Rattle.access.specs.LoadsAndStores.{stackLoaded, stackStored, afterStackStore, literalLoaded, loadedBase, loadAt, storeAt, storeBase, loadBase, loadSigned, accessed};
 use endian::Size;
 use isa::Access;
+use memory::Attempt;
 use memory::Fault;
 use memory::Loaded;
-use memory::Stored;
 use state::Record;
 use window::Window;
 use writing::Write;
@@ -30,11 +30,11 @@ fn stack_load(window: Window, ram: &[u8], address: usize) -> Loaded
     }
 }
 
-fn stack_store(window: Window, ram: &mut [u8], address: usize, x: u32) -> Stored
+fn stack_store(window: Window, ram: &mut [u8], address: usize, x: u32) -> Attempt
     ensures { λ s. ⌜ (s ≡ stackStored window address) × (now (ram .exit) ≡ afterStackStore window (now (ram .entry)) address x) ⌝ }
 {
     if address < 0x10000 {
-        Stored::Fails(Fault::LowStack)
+        Attempt::Fails(Fault::LowStack)
     } else {
         memory::ram_store(
             window,
@@ -59,12 +59,12 @@ fn load_to(r: Record, t: u8, l: Loaded) -> Did
 }
 
 // A store writes no register.
-fn stored(r: Record, s: Stored) -> Did
+fn stored(r: Record, s: Attempt) -> Did
     ensures { λ d. ⌜ DoesAny (λ m. storeWith r s m) d ⌝ }
 {
     match s {
-        Stored::Done => Did::Writes(writing::writes_nothing(r)),
-        Stored::Fails(fault) => Did::Fails(fault),
+        Attempt::Done => Did::Writes(writing::writes_nothing(r)),
+        Attempt::Fails(fault) => Did::Fails(fault),
     }
 }
 
@@ -127,7 +127,7 @@ fn loaded_by(
     memory::load_by(base, n == 9, window, ram, external, imm12, size)
 }
 
-fn load_base(
+fn load(
     r: Record,
     window: Window,
     ram: &[u8],
@@ -142,7 +142,7 @@ fn load_base(
     load_to(r, t, loaded_by(r, window, ram, external, size, n, imm12))
 }
 
-fn load_signed(
+fn signed(
     r: Record,
     window: Window,
     ram: &[u8],
@@ -181,37 +181,10 @@ pub fn perform(
         Access::Str(t, imm12) => store_base(r, window, ram, Size::Word, t, imm12),
         Access::Strb(t, imm12) => store_base(r, window, ram, Size::Byte, t, imm12),
         Access::Strh(t, imm12) => store_base(r, window, ram, Size::Halfword, t, imm12),
-        Access::Ldr(n, t, imm12) => load_base(r, window, ram, external, Size::Word, n, t, imm12),
-        Access::Ldrb(n, t, imm12) => load_base(r, window, ram, external, Size::Byte, n, t, imm12),
-        Access::Ldrh(n, t, imm12) => load_base(
-            r,
-            window,
-            ram,
-            external,
-            Size::Halfword,
-            n,
-            t,
-            imm12,
-        ),
-        Access::Ldrsb(n, t, imm12) => load_signed(
-            r,
-            window,
-            ram,
-            external,
-            Size::Byte,
-            n,
-            t,
-            imm12,
-        ),
-        Access::Ldrsh(n, t, imm12) => load_signed(
-            r,
-            window,
-            ram,
-            external,
-            Size::Halfword,
-            n,
-            t,
-            imm12,
-        ),
+        Access::Ldr(n, t, imm12) => load(r, window, ram, external, Size::Word, n, t, imm12),
+        Access::Ldrb(n, t, imm12) => load(r, window, ram, external, Size::Byte, n, t, imm12),
+        Access::Ldrh(n, t, imm12) => load(r, window, ram, external, Size::Halfword, n, t, imm12),
+        Access::Ldrsb(n, t, imm12) => signed(r, window, ram, external, Size::Byte, n, t, imm12),
+        Access::Ldrsh(n, t, imm12) => signed(r, window, ram, external, Size::Halfword, n, t, imm12),
     }
 }

@@ -38,8 +38,8 @@ pub fn of_areas(
         return Verdict::Refused(Refusal::RamLength);
     }
     let data = of_external(external);
-    let held = window::of_window(window);
-    refusal::first_of(data, held)
+    let bounds = window::of_window(window);
+    refusal::first_of(data, bounds)
 }
 
 fn of_place(page: &[u8], platform: Platform, place: u16) -> Verdict

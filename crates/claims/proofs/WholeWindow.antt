@@ -1,7 +1,7 @@
 -- With all of RAM as its window every answer without windows holds.
 use Prim.Native.Nat.{ℕ}
 use native.Mathlib.Omega.{arith}
-use mathlib.Core.Bool.{Bool, true, false, _&&_, cond, true≢false}
+use mathlib.Core.Bool.{Bool, true, false, cond, true≢false}
 use mathlib.Core.List.{List}
 use mathlib.Core.Path.{_≡_, refl, sym, ap, _∙_}
 use borrow.Author.Tests.{eqb-false}
@@ -12,15 +12,13 @@ use Rattle.window.specs.Windows.{wholeRam, windowFits, insideWindow}
 use Rattle.window.specs.declared.Window.{Window}
 use Rattle.platform.specs.Programs.{Setting}
 use Rattle.memory.specs.Faults.{faultNumber}
-use Rattle.memory.specs.Memory.{insideRam, ramAccess, loadedIf, ramLoaded, ramStored, ramAfter}
+use Rattle.memory.specs.Memory.{insideRam, ramAccess, loadedIf, ramLoaded, afterIf, ramAfter}
 use Rattle.memory.specs.declared.Fault.{Fault}
 use Rattle.memory.specs.declared.Fault.the-variants.{OutsideWindow}
-use Rattle.memory.specs.declared.Loaded.{Loaded}
 use Rattle.memory.specs.declared.Loaded.the-variants.{Value}
 use Rattle.memory.specs.declared.Loaded.the-variants as loaded
-use Rattle.memory.specs.declared.Stored.{Stored}
-use Rattle.memory.specs.declared.Stored.the-variants.{Done}
-use Rattle.memory.specs.declared.Stored.the-variants as stored
+use Rattle.memory.specs.declared.Attempt.the-variants.{Done}
+use Rattle.memory.specs.declared.Attempt.the-variants as attempt
 use Rattle.memory.proofs.Ram.{whole-window}
 use Rattle.memory.proofs.Alike.{both}
 use Rattle.memory.proofs.Alike as alike
@@ -29,7 +27,6 @@ use Rattle.state.specs.declared.Record.{Record}
 use Rattle.stop.specs.Stops.{fault}
 use Rattle.plain.specs.PlainMachine.{Effect, goesOn, exits, faults, unlisted, Result, plain}
 use Rattle.plain.specs.Calls.{callBy}
-use Rattle.plain.specs.EqualBut.{EqualBut}
 use Rattle.plain.proofs.Alike.{goOn, exit, mark, EffectsAlike, RunsAlike, equal, outside, runs-alike}
 use Rattle.instruction.specs.Instructions.{instructionOf}
 use Rattle.instruction.proofs.Alike.{instructions-alike}
@@ -39,11 +36,11 @@ use Rattle.claims.specs.WholeWindow.{unwindowed, WholeWindow}
 
 -- ---- an access
 
-stored-whole : (at bytes : ℕ) (past : Fault) → ramAccess wholeRam at bytes past ≡ cond (insideRam at bytes) Done (stored.Fails past)
+stored-whole : (at bytes : ℕ) (past : Fault) → ramAccess wholeRam at bytes past ≡ cond (insideRam at bytes) Done (attempt.Fails past)
 unfolding ramAccess
 stored-whole at bytes past = rw (whole-window at bytes) (go (insideRam at bytes))
   where
-    go : (t : Bool) → cond t (cond t Done (stored.Fails OutsideWindow)) (stored.Fails past) ≡ cond t Done (stored.Fails past)
+    go : (t : Bool) → cond t (cond t Done (attempt.Fails OutsideWindow)) (attempt.Fails past) ≡ cond t Done (attempt.Fails past)
     go true = refl
     go false = refl
 
@@ -52,16 +49,16 @@ loaded-whole : (ram : List ℕ) (at : ℕ) (size : Size) (past : Fault)
 unfolding ramLoaded
 loaded-whole ram at size past = rw (stored-whole at (widthOf size) past) (go (insideRam at (widthOf size)) (loadLE (widthOf size) ram at))
   where
-    go : (t : Bool) (x : ℕ) → loadedIf (cond t Done (stored.Fails past)) x ≡ cond t (Value x) (loaded.Fails past)
+    go : (t : Bool) (x : ℕ) → loadedIf (cond t Done (attempt.Fails past)) x ≡ cond t (Value x) (loaded.Fails past)
     go true x = refl
     go false x = refl
 
-after-whole : (ram : List ℕ) (at : ℕ) (size : Size) (x : ℕ)
-    → ramAfter wholeRam ram at size x ≡ cond (insideRam at (widthOf size)) (storeLE (widthOf size) ram at x) ram
+after-whole : (ram : List ℕ) (at : ℕ) (size : Size) (past : Fault) (x : ℕ)
+    → ramAfter wholeRam ram at size past x ≡ cond (insideRam at (widthOf size)) (storeLE (widthOf size) ram at x) ram
 unfolding ramAfter
-after-whole ram at size x = rw (whole-window at (widthOf size)) (go (insideRam at (widthOf size)))
+after-whole ram at size past x = rw (stored-whole at (widthOf size) past) (go (insideRam at (widthOf size)))
   where
-    go : (t : Bool) → cond (t && t) (storeLE (widthOf size) ram at x) ram ≡ cond t (storeLE (widthOf size) ram at x) ram
+    go : (t : Bool) → afterIf (cond t Done (attempt.Fails past)) (storeLE (widthOf size) ram at x) ram ≡ cond t (storeLE (widthOf size) ram at x) ram
     go true = refl
     go false = refl
 

@@ -29,13 +29,13 @@ unfolding greatestClosed allWithin successorsOf flowOf serviceOf byLowByte halfw
 window-edges ram = record {
   stores = refl;
   loads = refl;
-  pushes = refl;
+  stores-at-sp = refl;
   late-store = refl;
   short-store = refl;
   late-load = refl;
   short-load = refl;
-  late-push = refl;
-  short-push = refl;
+  late-store-at-sp = refl;
+  short-store-at-sp = refl;
   no-base = refl;
   past-ram = refl;
   past-stack = refl;

@@ -5,6 +5,7 @@ use mathlib.Core.Path.{_≡_, refl}
 use lib.ListN.{length}
 use Rattle.window.specs.Windows.{EqualOutside}
 use Rattle.window.specs.declared.Window.{Window}
+use Rattle.window.proofs.Rams.{equal-same}
 use Rattle.platform.specs.Programs.{Setting}
 use Rattle.memory.proofs.Alike.{both}
 use Rattle.memory.proofs.Alike as alike
@@ -35,7 +36,7 @@ writes-inside : (setting : Setting) (r : Record) (ram : List ℕ)
 writes-inside setting r ram =
     let w = setting .window in
     leaves w (EqualOutside w ram) (instructionOf setting r ram)
-    (instructions-alike w w (λ a b. (a ≡ b) × EqualOutside w ram a) (stays-outside w ram) r ram ram (refl, (refl, λ k o. refl))
+    (instructions-alike w w (λ a b. (a ≡ b) × EqualOutside w ram a) (stays-outside w ram) r ram ram (refl, equal-same _ ram)
     (setting .program) (setting .external))
 
 by-length : (setting : Setting) (r : Record) (a b : List ℕ) → length a ≡ length b → runDecision setting r a ≡ runDecision setting r b

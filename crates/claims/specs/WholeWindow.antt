@@ -8,15 +8,14 @@ use Rattle.refusal.specs.Refusals.{decision}
 use Rattle.endian.specs.LittleEndian.{widthOf, loadLE, storeLE}
 use Rattle.endian.specs.declared.Size.{Size}
 use Rattle.window.specs.Windows.{wholeRam, windowFits}
-use Rattle.window.specs.declared.Window.{Window}
 use Rattle.platform.specs.Programs.{programRules, Setting, settingOf}
 use Rattle.memory.specs.Memory.{insideRam, ramLoaded, ramStored, ramAfter}
 use Rattle.memory.specs.declared.Fault.{Fault}
 use Rattle.memory.specs.declared.Fault.the-variants.{OutsideWindow}
 use Rattle.memory.specs.declared.Loaded.the-variants.{Value}
 use Rattle.memory.specs.declared.Loaded.the-variants as loaded
-use Rattle.memory.specs.declared.Stored.the-variants.{Done}
-use Rattle.memory.specs.declared.Stored.the-variants as stored
+use Rattle.memory.specs.declared.Attempt.the-variants.{Done}
+use Rattle.memory.specs.declared.Attempt.the-variants as attempt
 use Rattle.state.specs.Validation.{externalRule}
 use Rattle.state.specs.declared.Record.{Record}
 use Rattle.stop.specs.Stops.{fault}
@@ -25,21 +24,17 @@ use Rattle.admission.specs.RunRefusals.{ramRule, recordRules, runDecision}
 use Rattle.instruction.specs.Instructions.{instructionOf}
 use Rattle.machine.specs.Runs.{runOf}
 
--- the same with another window
-abbrev pub withWindow : Setting → Window → Setting
-withWindow setting window = settingOf (setting .program) (setting .external) window
-
--- with all of RAM
+-- the same with all of RAM
 abbrev pub unwindowed : Setting → Setting
-unwindowed setting = withWindow setting wholeRam
+unwindowed setting = settingOf (setting .program) (setting .external) wholeRam
 
 pub record WholeWindow : Type 0 where
   -- the definitions that look at a window are then the build paper's: reads and writes are tested by RAM's length alone
   pub loads : (ram : List ℕ) (at : ℕ) (size : Size) (past : Fault)
       → ramLoaded wholeRam ram at size past ≡ cond (insideRam at (widthOf size)) (Value (loadLE (widthOf size) ram at)) (loaded.Fails past)
-  pub stores : (at : ℕ) (size : Size) (past : Fault) → ramStored wholeRam at size past ≡ cond (insideRam at (widthOf size)) Done (stored.Fails past)
-  pub after : (ram : List ℕ) (at : ℕ) (size : Size) (x : ℕ)
-      → ramAfter wholeRam ram at size x ≡ cond (insideRam at (widthOf size)) (storeLE (widthOf size) ram at x) ram
+  pub stores : (at : ℕ) (size : Size) (past : Fault) → ramStored wholeRam at size past ≡ cond (insideRam at (widthOf size)) Done (attempt.Fails past)
+  pub after : (ram : List ℕ) (at : ℕ) (size : Size) (past : Fault) (x : ℕ)
+      → ramAfter wholeRam ram at size past x ≡ cond (insideRam at (widthOf size)) (storeLE (widthOf size) ram at x) ram
   -- nor is a call refused by 20
   pub refusals : (setting : Setting) (r : Record) (ram : List ℕ)
       → runDecision (unwindowed setting) r ram

@@ -17,7 +17,7 @@ use Rattle.effects.specs.ServiceEffects.{leavesNone, lowerSp, serviceDoe
 
 module _ (w v : Window) (S : List ℕ → List ℕ → Type 0) (h : Related w v S) (r : Record) (a b : List ℕ) (s : S a b) where
   abbrev Same : Outcome → Outcome → Type 0
-  Same = OutcomesAlike w v S h r a b s
+  Same = OutcomesAlike w v S
 
   none-after : (x y : Outcome) → Same x y → Same (leavesNone x) (leavesNone y)
   unfolding leavesNone

@@ -1,9 +1,10 @@
 -- A host's calls keep to their window.
 use Prim.Native.Nat.{ℕ}
-use mathlib.Core.Bool.{Bool, true, false, cond, true≢false}
+use mathlib.Core.Bool.{Bool, true, false, cond}
 use mathlib.Core.List.{List}
-use mathlib.Core.Path.{_≡_, refl, sym, ap, subst, _∙_}
+use mathlib.Core.Path.{_≡_, refl, ap, subst, _∙_}
 use Rattle.window.specs.Windows.{EqualInside, EqualOutside}
+use Rattle.window.proofs.Rams.{equal-same}
 use Rattle.platform.specs.Programs.{Setting}
 use Rattle.refusal.specs.Refusals.{decision}
 use Rattle.plain.specs.PlainMachine.{Result}
@@ -13,13 +14,12 @@ use Rattle.series.specs.Windows.{ramAlone}
 use Rattle.series.proofs.Windows.{rams-stay, call-outside, called-equal}
 use Rattle.machine.specs.Runs.{runOf}
 use Rattle.claims.specs.Demand3.{machine}
-use Rattle.claims.proofs.Machines.{code-keeps}
 use Rattle.claims.proofs.Windows.{within-window, keeps-to-window-of}
 use Rattle.crossing.specs.Numbers.{refusedWith, stopNumbers}
 use Rattle.marshbodkin.specs.HostRuns.{Crossed, crossing, noRecordRules, hostRun}
 use Rattle.host_claims.specs.HostCalls.{HostCall, lentTo, crossedBy}
 use Rattle.host_claims.specs.HostSeries.{RecordCall, handedRecord, gaveRecord, hostMachine, RefusesHost}
-use Rattle.host_claims.specs.HostWindows.{lentRam, crossedRam, windowLent, EqualCrossed, HostWindows}
+use Rattle.host_claims.specs.HostWindows.{windowLent, EqualCrossed, HostWindows}
 use Rattle.host_claims.proofs.HostDemand3.{crossed-is, meets, keeps-bytes}
 
 -- ---- bytes outside
@@ -32,7 +32,7 @@ call-stays c = go (holdsRecord (lentTo c .bytes)) refl
     go true e =
         call-outside (hostMachine (lentTo c .setting)) (within-window RecordCall handedRecord gaveRecord (lentTo c .setting)) meets
         (record { call = c; holds = e })
-    go false e = rw (keeps-bytes c e) (refl, λ k o. refl)
+    go false e = rw (keeps-bytes c e) (equal-same _ (lentTo c .ram))
 
 -- a refused one leaves all of RAM
 refused-stays : (c : HostCall) → RefusesHost (lentTo c .setting) c → crossedBy c .ram ≡ lentTo c .ram
@@ -54,8 +54,7 @@ runs-equal setting total bytes a b e = go (holdsRecord bytes)
     run ram = runOf setting total (recordIn bytes) ram
 
     ran : EqualBut (EqualInside (setting .window)) (run a) (run b)
-    ran =
-        called-equal (machine setting) (within-window _ _ _ setting) (code-keeps setting .meets) setting total (recordIn bytes) a b e
+    ran = called-equal (machine setting) (within-window _ _ _ setting) setting total (recordIn bytes) a b e
 
     none : List ℕ → Crossed
     none ram = record { stop = refusedWith (decision (noRecordRules setting bytes ram)); steps = 0; bytes = bytes; ram = ram }
@@ -75,7 +74,7 @@ pub host-windows : (setting : Setting) → HostWindows setting
 host-windows setting = record {
   keeps-to-window = keeps-to-window-of RecordCall handedRecord gaveRecord (λ _ c. meets c) setting;
   outside-stays = λ w cs ram h.
-      rams-stay crossedRam lentRam (λ c. windowLent c ≡ w) (λ c. RefusesHost (lentTo c .setting) c) w
+      rams-stay (λ c. ramAlone (crossedBy c .ram)) (λ c. ramAlone (lentTo c .ram)) (λ c. windowLent c ≡ w) (λ c. RefusesHost (lentTo c .setting) c) w
       (λ c e. subst (λ x. EqualOutside x (lentTo c .ram) (crossedBy c .ram)) e (call-stays c)) refused-stays cs (ramAlone ram) h;
   equal-calls = calls-equal;
 }

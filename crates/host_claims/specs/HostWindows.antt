@@ -1,29 +1,15 @@
 -- Windows, of a host's calls.
-use Prim.Native.Nat.{ℕ}
-use mathlib.Core.List.{List}
 use mathlib.Core.Path.{_≡_}
-use Rattle.window.specs.Windows.{EqualInside, EqualOutside}
+use Rattle.window.specs.Windows.{EqualInside}
 use Rattle.window.specs.declared.Window.{Window}
 use Rattle.platform.specs.Programs.{Setting}
-use Rattle.series.specs.HandedOn.{InSeries, leftByAll, HandedOn}
-use Rattle.series.specs.Windows.{RamAlone, ramAlone, KeepsToWindow}
+use Rattle.series.specs.Windows.{OutsideStays, KeepsToWindow}
 use Rattle.marshbodkin.specs.HostRuns.{Crossed}
 use Rattle.host_claims.specs.HostCalls.{HostCall, lentTo, crossedBy}
 use Rattle.host_claims.specs.HostSeries.{hostMachine, RefusesHost}
 
-abbrev pub lentRam : HostCall → RamAlone
-lentRam c = ramAlone (lentTo c .ram)
-
-abbrev pub crossedRam : HostCall → RamAlone
-crossedRam c = ramAlone (crossedBy c .ram)
-
 abbrev pub windowLent : HostCall → Window
 windowLent c = lentTo c .setting .window
-
--- calls in a row over one RAM, each lent the RAM that the one before left. Own calls have this window; the others are refused, for their
--- bytes too, whatever their window is
-abbrev pub OverOneRam : Window → List (InSeries HostCall) → List ℕ → Type 0
-OverOneRam w cs ram = HandedOn crossedRam lentRam (λ c. windowLent c ≡ w) (λ c. RefusesHost (lentTo c .setting) c) cs (ramAlone ram)
 
 -- what comes back is equal but for RAM's bytes outside a window
 pub record EqualCrossed (w : Window) (x y : Crossed) : Type 0 where
@@ -35,9 +21,8 @@ pub record EqualCrossed (w : Window) (x y : Crossed) : Type 0 where
 pub record HostWindows (setting : Setting) : Type 0 where
   -- of the calls whose bytes hold a record, and of the records in them
   pub keeps-to-window : KeepsToWindow (hostMachine setting)
-  -- bytes outside the window stay, calls whose bytes hold no record among them
-  pub outside-stays : (w : Window) (cs : List (InSeries HostCall)) (ram : List ℕ) → OverOneRam w cs ram
-      → EqualOutside w ram (leftByAll crossedRam cs (ramAlone ram) .ram)
+  -- bytes outside the window stay, calls that are refused for their bytes among them
+  pub outside-stays : OutsideStays (λ c. lentTo c .ram) (λ c. crossedBy c .ram) windowLent (λ c. RefusesHost (lentTo c .setting) c)
   -- two calls that are lent equal settings, budgets and bytes of a record, or of none, and RAMs that are equal inside the window, give
   -- back equal numbers, bytes of the record and window bytes
   pub equal-calls : (c d : HostCall) → lentTo c .setting ≡ lentTo d .setting → lentTo c .budget ≡ lentTo d .budget

@@ -2,7 +2,7 @@
 use Prim.Native.Nat.{ℕ, _*_}
 use mathlib.Core.Bool.{Bool, true, false}
 use mathlib.Core.List.{List}
-use mathlib.Core.Path.{_≡_, refl, ap}
+use mathlib.Core.Path.{refl, ap}
 use lib.ListN.{length}
 use Rattle.isa.specs.declared.Instruction.{Instruction}
 use Rattle.isa.specs.declared.Instruction.the-variants.{Data, Memory, Cbz, Cbnz, Bcc, B, Service, Unlisted}
@@ -17,12 +17,11 @@ use Rattle.platform.specs.Programs.{Program, settingOf}
 use Rattle.memory.proofs.Alike.{both, alike-map, Related}
 use Rattle.state.specs.Record.{withPlace}
 use Rattle.state.specs.declared.Record.{Record}
-use Rattle.writing.specs.Writes.{applied}
-use Rattle.access.specs.Outcomes.{Outcome, does, fails}
+use Rattle.access.specs.Outcomes.{Outcome, fails}
 use Rattle.access.proofs.Alike.{BothDone, OutcomesAlike, still, accesses-alike}
 use Rattle.effects.proofs.Alike.{services-alike}
 use Rattle.stop.specs.Stops.{Exit}
-use Rattle.plain.specs.PlainMachine.{Effect, goesOn, exits, faults, unlisted}
+use Rattle.plain.specs.PlainMachine.{Effect, goesOn, exits, faults}
 use Rattle.plain.proofs.Alike.{BothEffects, goOn, exit, mark, EffectsAlike}
 use Rattle.place.specs.Places.{instructionAt, following}
 use Rattle.instruction.specs.Instructions.{endAt, branchTo, branchIf, exitOf, servedBy, served, effectOf, instructionOf}
@@ -32,7 +31,7 @@ module _ (w v : Window) (S : List ℕ → List ℕ → Type 0) (h : Related w v 
   Same = EffectsAlike w v S
 
   abbrev SameOutcomes : Outcome → Outcome → Type 0
-  SameOutcomes = OutcomesAlike w v S h r a b s
+  SameOutcomes = OutcomesAlike w v S
 
   -- what was done goes on, or exits, at a place
   goes-on : (place : ℕ) (x y : Outcome) → SameOutcomes x y → Same (endAt goesOn r place x) (endAt goesOn r place y)

@@ -16,17 +16,16 @@ use Rattle.isa.specs.declared.Access.{Access}
 use Rattle.isa.specs.declared.Access.the-variants.{LdrLit, StrSp, LdrSp, Str, Strb, Strh, Ldr, Ldrb, Ldrh, Ldrsb, Ldrsh}
 use Rattle.service.specs.declared.Service.{Service}
 use Rattle.service.specs.declared.Service.the-variants.{Return, Call, TailCall, Syscall, TailSyscall, LongBranch, Preload, SetBase, StoreAtSp, LoadAtSp, LowerSp, DirectSyscall, Validate, Breakpoint, CallRegister, TailCallRegister, Bad}
-use Rattle.window.specs.Windows.{insideWindow}
 use Rattle.window.specs.declared.Window.{Window}
-use Rattle.memory.specs.Memory.{insideRam, storedBy, afterStoreBy, signedLoaded}
+use Rattle.memory.specs.Memory.{storedBy, afterStoreBy, signedLoaded}
 use Rattle.memory.proofs.Ram.{base-keeps}
 use Rattle.memory.specs.declared.Fault.the-variants.{LowStack}
 use Rattle.memory.specs.declared.Loaded.{Loaded}
 use Rattle.memory.specs.declared.Loaded.the-variants.{Value}
 use Rattle.memory.specs.declared.Loaded.the-variants as loaded
-use Rattle.memory.specs.declared.Stored.{Stored}
-use Rattle.memory.specs.declared.Stored.the-variants.{Done}
-use Rattle.memory.specs.declared.Stored.the-variants as stored
+use Rattle.memory.specs.declared.Attempt.{Attempt}
+use Rattle.memory.specs.declared.Attempt.the-variants.{Done}
+use Rattle.memory.specs.declared.Attempt.the-variants as attempt
 use Rattle.state.specs.FitRecord.{spFits, baseFits}
 use Rattle.state.specs.Record.{register}
 use Rattle.writing.specs.Writes.{writesNothing, writingSp, writingBase}
@@ -93,15 +92,14 @@ module _ (external : ℕ) (r : Record) (window : Window) (ram : List ℕ) (f : F
   load-leaves t (Value x) = (f, e)
   load-leaves t (loaded.Fails fault) = tt
 
-  store-leaves : (s : Stored) (after : List ℕ) → length after ≡ 32768 → Leaves external (storeWith r s after)
+  store-leaves : (s : Attempt) (after : List ℕ) → length after ≡ 32768 → Leaves external (storeWith r s after)
   unfolding storeWith
   store-leaves Done after l = (f, l)
-  store-leaves (stored.Fails fault) after l = tt
+  store-leaves (attempt.Fails fault) after l = tt
 
   -- RAM keeps its length
-  same-length : (x at : ℕ) (size : Size) → insideRam at (widthOf size) ≡ true → insideWindow window at (widthOf size) ≡ true
-      → length (storeLE (widthOf size) ram at x) ≡ 32768
-  same-length x at size i j = length-store (widthOf size) ram at x ∙ e
+  same-length : (x at : ℕ) (size : Size) → length (storeLE (widthOf size) ram at x) ≡ 32768
+  same-length x at size = length-store (widthOf size) ram at x ∙ e
 
   stack-store : (t address : ℕ) → Leaves external (storeAt r window ram t address)
   stack-store t address =

@@ -25,18 +25,17 @@ use Rattle.service.specs.declared.Ending.{Ending}
 use Rattle.service.specs.declared.Ending.the-variants as ending
 use Rattle.service.specs.declared.Service.{Service}
 use Rattle.service.specs.declared.Service.the-variants.{Return, Call, TailCall, Syscall, TailSyscall, LongBranch, Preload, SetBase, StoreAtSp, LoadAtSp, LowerSp, DirectSyscall, Validate, Breakpoint, CallRegister, TailCallRegister, Bad}
-use Rattle.window.specs.Windows.{insideWindow}
 use Rattle.window.specs.declared.Window.{Window}
-use Rattle.memory.specs.Memory.{insideRam, ramAccess, loadedIf, ramLoaded, externalPage, externalLoaded, loadedBy, storedBy, signedLoaded}
+use Rattle.memory.specs.Memory.{ramAccess, loadedIf, ramLoaded, externalPage, externalLoaded, loadedBy, storedBy, signedLoaded}
 use Rattle.memory.proofs.Ram.{base-keeps}
 use Rattle.memory.specs.declared.Fault.{Fault}
 use Rattle.memory.specs.declared.Fault.the-variants.{OffExternalPage, PastRam, PastStack, LowStack, PastPage}
 use Rattle.memory.specs.declared.Loaded.{Loaded}
 use Rattle.memory.specs.declared.Loaded.the-variants.{Value}
 use Rattle.memory.specs.declared.Loaded.the-variants as loaded
-use Rattle.memory.specs.declared.Stored.{Stored}
-use Rattle.memory.specs.declared.Stored.the-variants.{Done}
-use Rattle.memory.specs.declared.Stored.the-variants as stored
+use Rattle.memory.specs.declared.Attempt.{Attempt}
+use Rattle.memory.specs.declared.Attempt.the-variants.{Done}
+use Rattle.memory.specs.declared.Attempt.the-variants as attempt
 use Rattle.state.specs.Record.{register, withPlace}
 use Rattle.state.specs.declared.Base.{Base}
 use Rattle.state.specs.declared.Base.the-variants.{Nothing, Ram, External}
@@ -45,7 +44,7 @@ use Rattle.writing.specs.Writes.{writesNothing, writingSp, writtenTo, applied}
 use Rattle.writing.specs.declared.Write.{Write}
 use Rattle.writing.specs.declared.Write.the-variants.{NoRegister, Register}
 use Rattle.access.specs.Outcomes.{Outcome, does, fails, loadTo, storeWith}
-use Rattle.access.specs.LoadsAndStores.{stackLoaded, stackStored, afterStackStore, storeAt, literalLoaded, storeBase, loadedBase, accessed}
+use Rattle.access.specs.LoadsAndStores.{stackLoaded, stackStored, storeAt, literalLoaded, storeBase, loadedBase, accessed}
 use Rattle.access.proofs.Theorems.{stack-keeps}
 use Rattle.effects.specs.ServiceEffects.{leavesNone, lowerSp, serviceDoes}
 use Rattle.stop.specs.Stops.{Exit}
@@ -72,9 +71,9 @@ load-if : (t : Bool) (x : ℕ) (fault : Fault) → x < 2 ^ 32 → LoadedWord (co
 load-if true x fault h = h
 load-if false x fault h = tt
 
-access-word : (s : Stored) (x : ℕ) → x < 2 ^ 32 → LoadedWord (loadedIf s x)
+access-word : (s : Attempt) (x : ℕ) → x < 2 ^ 32 → LoadedWord (loadedIf s x)
 access-word Done x h = h
-access-word (stored.Fails fault) x h = tt
+access-word (attempt.Fails fault) x h = tt
 
 ram-word : (window : Window) (ram : List ℕ) (at : ℕ) (size : Size) (past : Fault) → Below 256 ram → LoadedWord (ramLoaded window ram at size past)
 unfolding ramLoaded
@@ -145,15 +144,14 @@ module _ (setting : Setting) (p : Below 256 (setting .program .page)) (e : Below
   load-words t (Value x) l = (l, h .bytes)
   load-words t (loaded.Fails fault) l = tt
 
-  store-words : (s : Stored) (after : List ℕ) → Below 256 after → OutWords (storeWith r s after)
+  store-words : (s : Attempt) (after : List ℕ) → Below 256 after → OutWords (storeWith r s after)
   unfolding storeWith
   store-words Done after l = (tt, l)
-  store-words (stored.Fails fault) after l = tt
+  store-words (attempt.Fails fault) after l = tt
 
   -- RAM keeps its bytes
-  still-bytes : (x at : ℕ) (size : Size) → insideRam at (widthOf size) ≡ true → insideWindow window at (widthOf size) ≡ true
-      → Below 256 (storeLE (widthOf size) ram at x)
-  still-bytes x at size i j = below-store (widthOf size) ram at x (h .bytes)
+  still-bytes : (x at : ℕ) (size : Size) → Below 256 (storeLE (widthOf size) ram at x)
+  still-bytes x at size = below-store (widthOf size) ram at x (h .bytes)
 
   stack-store : (t address : ℕ) → OutWords (storeAt r window ram t address)
   stack-store t address =

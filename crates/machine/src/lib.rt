@@ -195,12 +195,10 @@ fn serve(
 {
     let s = service::service_of(page, n);
     match service::ending_on(platform, s) {
-        Ending::GoesOn => ended(
-            r,
-            effects::serve(external, window, s, r, ram),
-            End::GoesOn,
-            behind,
-        ),
+        Ending::GoesOn => {
+            let did = effects::serve(external, window, s, r, ram);
+            ended(r, did, End::GoesOn, behind)
+        }
         Ending::Exit => ended(
             r,
             effects::serve(external, window, s, r, ram),

@@ -18,8 +18,9 @@ use Rattle.memory.specs.declared.Fault.the-variants.{NoBase, PastRam, Of
 use Rattle.memory.specs.declared.Loaded.{Loaded}
 use Rattle.memory.specs.declared.Loaded.the-variants.{Value}
 use Rattle.memory.specs.declared.Loaded.the-variants as loaded
-use Rattle.memory.specs.declared.Stored.the-variants.{Done}
-use Rattle.memory.specs.declared.Stored.the-variants as stored
+use Rattle.memory.specs.declared.Attempt.{Attempt}
+use Rattle.memory.specs.declared.Attempt.the-variants.{Done}
+use Rattle.memory.specs.declared.Attempt.the-variants as attempt
 
 -- ---- two things that accesses come to: `Both` relates them where no fault is met, and `failing` is what a fault makes of one
 
@@ -49,48 +50,66 @@ pub record Related (w v : Window) (S : List ℕ → List ℕ → Type 0) : Type 
   pub reads : (a b : List ℕ) → S a b → (at bytes : ℕ) → insideWindow w at bytes ≡ true → loadLE bytes a at ≡ loadLE bytes b at
   pub writes : (a b : List ℕ) → S a b → (at bytes x : ℕ) → insideWindow w at bytes ≡ true → S (storeLE bytes a at x) (storeLE bytes b at x)
 
--- ---- loads
+-- ---- accesses
+
+-- both are done, and the first window holds the access
+abbrev pub BothPass : Window → ℕ → ℕ → Attempt → Attempt → Type 0
+BothPass w at bytes x y = (x ≡ Done) × (y ≡ Done) × (insideWindow w at bytes ≡ true)
 
 abbrev pub BothLoaded : Loaded → Loaded → Type 0
 BothLoaded x y = (n : ℕ) × (x ≡ Value n) × (y ≡ Value n)
 
-module _ (w v : Window) (S : List ℕ → List ℕ → Type 0) (h : Related w v S) (a b : List ℕ) (s : S a b) where
-  abbrev pub LoadsAlike : Loaded → Loaded → Type 0
-  LoadsAlike = Alike w v loaded.Fails BothLoaded
+abbrev pub LoadsAlike : Window → Window → Loaded → Loaded → Type 0
+LoadsAlike w v = Alike w v loaded.Fails BothLoaded
 
-  -- what doesn't read RAM
-  pub same-loads : (t : Bool) (n : ℕ) (f : Fault) → eqb (faultNumber f) 7 ≡ false → LoadsAlike (cond t (Value n) (loaded.Fails f)) (cond t (Value n) (loaded.Fails f))
-  same-loads true n f l = both (n, refl, refl)
-  same-loads false n f l = fault f l refl refl
+-- what doesn't read RAM
+pub same-loads : (w v : Window) (t : Bool) (n : ℕ) (f : Fault) → eqb (faultNumber f) 7 ≡ false
+    → LoadsAlike w v (cond t (Value n) (loaded.Fails f)) (cond t (Value n) (loaded.Fails f))
+same-loads w v true n f l = both (n, refl, refl)
+same-loads w v false n f l = fault f l refl refl
 
-  pub ram-loads : (at : ℕ) (size : Size) (past : Fault) → eqb (faultNumber past) 7 ≡ false
-      → LoadsAlike (ramLoaded w a at size past) (ramLoaded v b at size past)
-  unfolding ramLoaded ramAccess
-  ram-loads at size past n = go (insideRam at bytes) (insideWindow w at bytes) (insideWindow v at bytes) refl refl refl
+-- the sign extended
+pub signed-loads : (w v : Window) (size : Size) (x y : Loaded) → LoadsAlike w v x y → LoadsAlike w v (signedLoaded size x) (signedLoaded size y)
+signed-loads w v size =
+    alike-map w v loaded.Fails loaded.Fails BothLoaded BothLoaded (signedLoaded size) (signedLoaded size) (λ e. refl) (λ e. refl)
+    (λ x y l. (_, ap (signedLoaded size) (l .1), ap (signedLoaded size) (l .2)))
+
+module _ (w v : Window) (S : List ℕ → List ℕ → Type 0) (h : Related w v S) where
+  pub accesses : (at bytes : ℕ) (past : Fault) → eqb (faultNumber past) 7 ≡ false
+      → Alike w v attempt.Fails (BothPass w at bytes) (ramAccess w at bytes past) (ramAccess v at bytes past)
+  unfolding ramAccess
+  accesses at bytes past n = go (insideRam at bytes) (insideWindow w at bytes) (insideWindow v at bytes) refl refl refl
     where
-      bytes : ℕ
-      bytes = widthOf size
+      by : Bool → Bool → Attempt
+      by i p = cond i (cond p Done (attempt.Fails OutsideWindow)) (attempt.Fails past)
 
       go : (i p q : Bool) → insideRam at bytes ≡ i → insideWindow w at bytes ≡ p → insideWindow v at bytes ≡ q
-          → LoadsAlike (loadedIf (cond i (cond p Done (stored.Fails OutsideWindow)) (stored.Fails past)) (loadLE bytes a at))
-          (loadedIf (cond i (cond q Done (stored.Fails OutsideWindow)) (stored.Fails past)) (loadLE bytes b at))
+          → Alike w v attempt.Fails (BothPass w at bytes) (by i p) (by i q)
       go false p q ei ep eq = fault past n refl refl
-      go true true true ei ep eq = both (loadLE bytes a at, refl, ap Value (sym (h .reads a b s at bytes ep)))
+      go true true true ei ep eq = both (refl, refl, ep)
       go true true false ei ep eq = absurd (true≢false (sym (h .wider at bytes ei ep) ∙ eq))
       go true false true ei ep eq = outside at bytes ei ep refl (λ t. absurd (true≢false (sym eq ∙ t)))
       go true false false ei ep eq = outside at bytes ei ep refl (λ t. refl)
 
-  pub base-loads : (base : Base) (needsRam : Bool) (external : List ℕ) (imm12 : ℕ) (size : Size)
-      → LoadsAlike (loadedBy base needsRam w a external imm12 size) (loadedBy base needsRam v b external imm12 size)
-  unfolding loadedBy externalLoaded
-  base-loads Nothing needsRam external imm12 size = fault NoBase refl refl refl
-  base-loads (Ram offset) needsRam external imm12 size = ram-loads (offset + imm12) size PastRam refl
-  base-loads (External offset) true external imm12 size = fault NoBase refl refl refl
-  base-loads (External offset) false external imm12 size =
-      same-loads (leb (offset % 256 + imm12 + widthOf size) 256) _ OffExternalPage refl
+  module _ (a b : List ℕ) (s : S a b) where
+    pub ram-loads : (at : ℕ) (size : Size) (past : Fault) → eqb (faultNumber past) 7 ≡ false
+        → LoadsAlike w v (ramLoaded w a at size past) (ramLoaded v b at size past)
+    unfolding ramLoaded
+    ram-loads at size past n =
+        alike-map w v attempt.Fails loaded.Fails (BothPass w at bytes) BothLoaded (found a) (found b) (λ e. refl) (λ e. refl)
+        (λ x y d. (loadLE bytes a at, ap (found a) (d .0), ap (found b) (d .1) ∙ ap Value (sym (h .reads a b s at bytes (d .2)))))
+        _ _ (accesses at bytes past n)
+      where
+        bytes : ℕ
+        bytes = widthOf size
 
-  -- the sign extended
-  pub signed-loads : (size : Size) (x y : Loaded) → LoadsAlike x y → LoadsAlike (signedLoaded size x) (signedLoaded size y)
-  signed-loads size =
-      alike-map w v loaded.Fails loaded.Fails BothLoaded BothLoaded (signedLoaded size) (signedLoaded size) (λ e. refl) (λ e. refl)
-      (λ x y l. (_, ap (signedLoaded size) (l .1), ap (signedLoaded size) (l .2)))
+        found : List ℕ → Attempt → Loaded
+        found ram t = loadedIf t (loadLE bytes ram at)
+
+    pub base-loads : (base : Base) (needsRam : Bool) (external : List ℕ) (imm12 : ℕ) (size : Size)
+        → LoadsAlike w v (loadedBy base needsRam w a external imm12 size) (loadedBy base needsRam v b external imm12 size)
+    unfolding loadedBy externalLoaded
+    base-loads Nothing needsRam external imm12 size = fault NoBase refl refl refl
+    base-loads (Ram offset) needsRam external imm12 size = ram-loads (offset + imm12) size PastRam refl
+    base-loads (External offset) true external imm12 size = fault NoBase refl refl refl
+    base-loads (External offset) false external imm12 size = same-loads w v (leb (offset % 256 + imm12 + widthOf size) 256) _ OffExternalPage refl

@@ -1,33 +1,18 @@
--- Edges, parts of a list and integers, over plain variables.
+-- Parts of a list and integers, over plain variables.
 use mathlib.Core.Path.{_≡_, _∙_}
-use mathlib.Core.Bool.{true, false}
 use mathlib.Core.List.{List}
-use Prim.Native.Nat.{ℕ, min, _+_, _-_, _%_, _^_, _≤_, _<_}
+use Prim.Native.Nat.{ℕ, min, _+_, _-_, _%_, _^_, _<_}
 use native.Mathlib.Decide.{decLe}
 use native.Mathlib.Omega.{arith}
-use lib.Dec.{leb}
 use lib.IntN.{ℤ}
 use lib.ListN.{length, take, drop, length-drop, drop-of-length-le}
 use lib.Seq.{take-all}
 use lib.Signed.{mag}
-use borrow.Author.Tests.{le-leb, lt-leb}
 use mir.Syntax.{w64}
 use mir.Val.{toZ, ofZ}
 use Rattle.laws.proofs.Integers.{read}
 use Rattle.bits.specs.Integers.{SInt, lowWord}
 use Rattle.words.specs.Bitwise.{signExtended}
-use Rattle.endian.specs.LittleEndian.{widthOf}
-use Rattle.endian.proofs.Theorems.{width-le}
-use Rattle.endian.specs.declared.Size.{Size}
-
--- ---- an edge, tested by the last place that fits
-
--- whatever the code tests against, if it is no further than the edge
-pub inside : (edge limit at width : ℕ) (size : Size) → 4 ≤ limit → limit ≤ edge → width ≡ widthOf size → at ≤ limit - width → leb (at + widthOf size) edge ≡ true
-inside edge limit at width size k m e l = le-leb (at + widthOf size) edge (omega (arith, width-le size))
-
-pub past : (edge at width : ℕ) (size : Size) → width ≡ widthOf size → edge - width < at → leb (at + widthOf size) edge ≡ false
-past edge at width size e l = lt-leb (at + widthOf size) edge (omega (arith, width-le size))
 
 -- ---- part of a list, clipped to its length
 

@@ -1,6 +1,6 @@
 -- Memory: loads and stores by a base, and their edges.
 use Prim.Native.Nat.{ℕ, _+_, _*_, _/_, _%_, _^_}
-use mathlib.Core.Bool.{Bool, _&&_, cond}
+use mathlib.Core.Bool.{Bool, cond}
 use mathlib.Core.List.{List}
 use lib.Dec.{leb}
 use lib.ListN.{take, drop}
@@ -16,9 +16,9 @@ use Rattle.memory.specs.declared.Fault.the-variants.{NoBase, PastRam, Of
 use Rattle.memory.specs.declared.Loaded.{Loaded}
 use Rattle.memory.specs.declared.Loaded.the-variants.{Value}
 use Rattle.memory.specs.declared.Loaded.the-variants as loaded
-use Rattle.memory.specs.declared.Stored.{Stored}
-use Rattle.memory.specs.declared.Stored.the-variants.{Done}
-use Rattle.memory.specs.declared.Stored.the-variants as stored
+use Rattle.memory.specs.declared.Attempt.{Attempt}
+use Rattle.memory.specs.declared.Attempt.the-variants.{Done}
+use Rattle.memory.specs.declared.Attempt.the-variants as attempt
 
 -- ---- RAM, for base and stack alike: one way to read and one to write. A fault changes nothing
 
@@ -27,24 +27,27 @@ abbrev pub insideRam : ℕ → ℕ → Bool
 insideRam at bytes = leb (at + bytes) 32768
 
 -- an access of some bytes: past RAM it meets the given fault; then, where it isn't wholly inside the window, fault 7
-unfoldable pub ramAccess : Window → ℕ → ℕ → Fault → Stored
+unfoldable pub ramAccess : Window → ℕ → ℕ → Fault → Attempt
 ramAccess window at bytes past =
-    cond (insideRam at bytes) (cond (insideWindow window at bytes) Done (stored.Fails OutsideWindow)) (stored.Fails past)
+    cond (insideRam at bytes) (cond (insideWindow window at bytes) Done (attempt.Fails OutsideWindow)) (attempt.Fails past)
 
--- the number that a load finds, where it may
-abbrev pub loadedIf : Stored → ℕ → Loaded
+-- where an access is done, a load has a number and a store leaves other bytes
+abbrev pub loadedIf : Attempt → ℕ → Loaded
 loadedIf Done x = Value x
-loadedIf (stored.Fails fault) x = loaded.Fails fault
+loadedIf (attempt.Fails fault) x = loaded.Fails fault
+
+abbrev pub afterIf : Attempt → List ℕ → List ℕ → List ℕ
+afterIf Done after ram = after
+afterIf (attempt.Fails fault) after ram = ram
 
 unfoldable pub ramLoaded : Window → List ℕ → ℕ → Size → Fault → Loaded
 ramLoaded window ram at size past = loadedIf (ramAccess window at (widthOf size) past) (loadLE (widthOf size) ram at)
 
-abbrev pub ramStored : Window → ℕ → Size → Fault → Stored
+abbrev pub ramStored : Window → ℕ → Size → Fault → Attempt
 ramStored window at size past = ramAccess window at (widthOf size) past
 
-unfoldable pub ramAfter : Window → List ℕ → ℕ → Size → ℕ → List ℕ
-ramAfter window ram at size x =
-    cond (insideRam at (widthOf size) && insideWindow window at (widthOf size)) (storeLE (widthOf size) ram at x) ram
+unfoldable pub ramAfter : Window → List ℕ → ℕ → Size → Fault → ℕ → List ℕ
+ramAfter window ram at size past x = afterIf (ramStored window at size past) (storeLE (widthOf size) ram at x) ram
 
 -- ---- external data
 
@@ -67,14 +70,14 @@ loadedBy (Ram offset) needsRam window ram external imm12 size = ramLoaded window
 loadedBy (External offset) needsRam window ram external imm12 size =
     cond needsRam (loaded.Fails NoBase) (externalLoaded external offset imm12 size)
 
-unfoldable pub storedBy : Base → Window → ℕ → Size → Stored
-storedBy Nothing window imm12 size = stored.Fails NoBase
+unfoldable pub storedBy : Base → Window → ℕ → Size → Attempt
+storedBy Nothing window imm12 size = attempt.Fails NoBase
 storedBy (Ram offset) window imm12 size = ramStored window (offset + imm12) size PastRam
-storedBy (External offset) window imm12 size = stored.Fails NoBase
+storedBy (External offset) window imm12 size = attempt.Fails NoBase
 
 unfoldable pub afterStoreBy : Base → Window → List ℕ → ℕ → Size → ℕ → List ℕ
 afterStoreBy Nothing window ram imm12 size x = ram
-afterStoreBy (Ram offset) window ram imm12 size x = ramAfter window ram (offset + imm12) size x
+afterStoreBy (Ram offset) window ram imm12 size x = ramAfter window ram (offset + imm12) size PastRam x
 afterStoreBy (External offset) window ram imm12 size x = ram
 
 -- ---- signed loads: the bytes that were loaded, their sign extended to 32 bits

@@ -25,7 +25,8 @@ pub enum Loaded {
     Fails(Fault),
 }
 
-pub enum Stored {
+// What an attempt at an access comes to.
+pub enum Attempt {
     Done,
     Fails(Fault),
 }
@@ -46,16 +47,16 @@ pub fn fault_number(f: Fault) -> u8
 }
 
 // Whether an access of some bytes to RAM may be done, tested whole: past RAM first, then the window.
-pub fn ram_access(window: Window, at: usize, bytes: usize, past: Fault) -> Stored
+pub fn ram_access(window: Window, at: usize, bytes: usize, past: Fault) -> Attempt
     ensures { λ r. ⌜ r ≡ ramAccess window at bytes past ⌝ }
 {
     if !window::holds(window::whole_ram(), at, bytes) {
-        return Stored::Fails(past);
+        return Attempt::Fails(past);
     }
     if !window::holds(window, at, bytes) {
-        return Stored::Fails(Fault::OutsideWindow);
+        return Attempt::Fails(Fault::OutsideWindow);
     }
-    Stored::Done
+    Attempt::Done
 }
 
 // The only way to read RAM.
@@ -64,8 +65,8 @@ pub fn ram_load(window: Window, ram: &[u8], at: usize, size: Size, past: Fault) 
 {
     let read = ram_access(window, at, endian::width(size), past);
     match read {
-        Stored::Done => Loaded::Value(endian::load(ram, at as u32, size)),
-        Stored::Fails(fault) => Loaded::Fails(fault),
+        Attempt::Done => Loaded::Value(endian::load(ram, at as u32, size)),
+        Attempt::Fails(fault) => Loaded::Fails(fault),
     }
 }
 
@@ -77,16 +78,16 @@ pub fn ram_store(
     size: Size,
     x: u32,
     past: Fault,
-) -> Stored
-    ensures { λ r. ⌜ (r ≡ ramStored window at size past) × (now (ram .exit) ≡ ramAfter window (now (ram .entry)) at size x) ⌝ }
+) -> Attempt
+    ensures { λ r. ⌜ (r ≡ ramStored window at size past) × (now (ram .exit) ≡ ramAfter window (now (ram .entry)) at size past x) ⌝ }
 {
     let written = ram_access(window, at, endian::width(size), past);
     match written {
-        Stored::Done => {
+        Attempt::Done => {
             endian::store(ram, at as u32, size, x);
-            Stored::Done
+            Attempt::Done
         }
-        Stored::Fails(fault) => Stored::Fails(fault),
+        Attempt::Fails(fault) => Attempt::Fails(fault),
     }
 }
 
@@ -150,16 +151,16 @@ pub fn store_by(
     imm12: u16,
     size: Size,
     x: u32,
-) -> Stored
+) -> Attempt
     ensures { λ r. ⌜ (r ≡ storedBy base window imm12 size) × (now (ram .exit) ≡ afterStoreBy base window (now (ram .entry)) imm12 size x) ⌝ }
 {
     match base {
-        Base::Nothing => Stored::Fails(Fault::NoBase),
+        Base::Nothing => Attempt::Fails(Fault::NoBase),
         Base::Ram(offset) => {
             let at = offset as usize + imm12 as usize;
             ram_store(window, ram, at, size, x, Fault::PastRam)
         }
-        Base::External(_) => Stored::Fails(Fault::NoBase),
+        Base::External(_) => Attempt::Fails(Fault::NoBase),
     }
 }
 

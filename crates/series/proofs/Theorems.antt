@@ -81,7 +81,7 @@ module _ (m : Machine) (k : KeepsAdmitted m) where
   gave-from s c h = k .meets c ∙ ap (called m) (handed-own m s c h)
 
   -- another call gives back what it was handed, so what stands stays
-  refused-back : (c : m .Call) (why : Refuses m (m .handed c)) → m .gave c ≡ refusedBy m (why .0) (why .1) (m .handed c)
+  pub refused-back : (c : m .Call) (why : Refuses m (m .handed c)) → m .gave c ≡ refusedBy m (why .0) (why .1) (m .handed c)
   refused-back c why = k .meets c ∙ rw (why .2)
 
   pub other-stays : (seriesRecord seriesRam : Bool) (c : m .Call) (s : State)

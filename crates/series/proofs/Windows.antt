@@ -7,6 +7,7 @@ use mathlib.Core.Path.{_≡_, refl, sym, ap, subst, _∙_}
 use lib.ListN.{length, getD, drop}
 use Rattle.window.specs.Windows.{EqualInside, EqualOutside}
 use Rattle.window.specs.declared.Window.{Window}
+use Rattle.window.proofs.Rams.{equal-same, equal-back, equal-on}
 use Rattle.refusal.specs.Refusals.{Decision, accepted, refused}
 use Rattle.state.specs.declared.Record.{Record}
 use Rattle.plain.specs.PlainMachine.{Effect, goesOn, exits, faults, unlisted, Result, plain}
@@ -17,26 +18,9 @@ use Rattle.plain.proofs.Alike.{EffectsAlike, RunsAlike, equal, outside, runs-al
 use Rattle.series.specs.HandedOn.{Standing, InSeries, own, other, leftBy, leftByAll, HandedOn}
 use Rattle.series.specs.Machine.{Handed, Machine, Refuses, called}
 use Rattle.series.specs.Series.{State, handedState, gaveState, OwnSetting, Series}
-use Rattle.series.specs.Windows.{ramAlone, handedRam, gaveRam, windowOn, EqualAll, ownWindow, EqualStates, InTurn, leftInTurn, budgetsOf, ownCalls, KeepsToWindow}
+use Rattle.series.specs.Windows.{ramAlone, windowOn, EqualAll, ownWindow, EqualStates, InTurn, leftInTurn, budgetsOf, ownCalls, KeepsToWindow}
 use Rattle.series.proofs.Keeps.{KeepsAdmitted}
-use Rattle.series.proofs.Theorems.{other-stays}
-
--- ---- equality inside and outside
-
-inside-refl : (w : Window) (a : List ℕ) → EqualInside w a a
-inside-refl w a = (refl, λ k i. refl)
-
-inside-sym : (w : Window) (a b : List ℕ) → EqualInside w a b → EqualInside w b a
-inside-sym w a b e = (sym (e .0), λ k i. sym (e .1 k i))
-
-inside-trans : (w : Window) (a b c : List ℕ) → EqualInside w a b → EqualInside w b c → EqualInside w a c
-inside-trans w a b c e f = (e .0 ∙ f .0, λ k i. e .1 k i ∙ f .1 k i)
-
-outside-refl : (w : Window) (a : List ℕ) → EqualOutside w a a
-outside-refl w a = (refl, λ k o. refl)
-
-outside-trans : (w : Window) (a b c : List ℕ) → EqualOutside w a b → EqualOutside w b c → EqualOutside w a c
-outside-trans w a b c e f = (e .0 ∙ f .0, λ k o. e .1 k o ∙ f .1 k o)
+use Rattle.series.proofs.Theorems.{stays, refused-back, other-stays}
 
 -- ---- what is asked of a machine
 
@@ -57,28 +41,23 @@ module _ {Form Call : Type 0} (gave handed : Call → Standing Form) (OwnSetting
     (other-keeps : (c : Call) → Refused c → gave c .ram ≡ handed c .ram) where
   pub rams-stay : (cs : List (InSeries Call)) (s : Standing Form) → HandedOn gave handed OwnSetting Refused cs s
       → EqualOutside w (s .ram) (leftByAll gave cs s .ram)
-  rams-stay [] s h = outside-refl w (s .ram)
+  rams-stay [] s h = equal-same _ (s .ram)
   rams-stay (own c ∷ cs) s h =
-      outside-trans w (s .ram) (gave c .ram) (leftByAll gave cs (gave c) .ram)
+      equal-on _ (s .ram) (gave c .ram) (leftByAll gave cs (gave c) .ram)
       (subst (λ (x : Standing Form). EqualOutside w (x .ram) (gave c .ram)) (h .0 .1) (own-keeps c (h .0 .0)))
       (rams-stay cs (gave c) (h .1))
   rams-stay (other seriesRecord seriesRam c ∷ cs) s h =
-      outside-trans w (s .ram) (leftBy gave (other seriesRecord seriesRam c) s .ram)
-      (leftByAll gave cs (leftBy gave (other seriesRecord seriesRam c) s) .ram)
-      (go seriesRam (h .0 .2)) (rams-stay cs (leftBy gave (other seriesRecord seriesRam c) s) (h .1))
-    where
-      go : (seriesRam : Bool) → (seriesRam ≡ true → handed c .ram ≡ s .ram)
-          → EqualOutside w (s .ram) (leftBy gave (other seriesRecord seriesRam c) s .ram)
-      go true e = rw (other-keeps c (h .0 .0), e refl) (outside-refl w (s .ram))
-      go false e = outside-refl w (s .ram)
+      let still = stays seriesRam (s .ram) (gave c .ram) (λ t. other-keeps c (h .0 .0) ∙ h .0 .2 t) in
+      subst (λ ram. EqualOutside w ram (leftByAll gave cs (leftBy gave (other seriesRecord seriesRam c) s) .ram)) still
+      (rams-stay cs (leftBy gave (other seriesRecord seriesRam c) s) (h .1))
 
-module _ (m : Machine) (inside : WithinWindow m) (meets : (c : m .Call) → m .gave c ≡ called m (m .handed c)) where
+module _ (m : Machine) (inside : WithinWindow m) where
   -- ---- one call leaves the bytes outside its window
 
   leaves-outside : (w : Window) (first ram : List ℕ) (e : Effect) → EqualOutside w first ram
       → Leaves (λ s after. EqualOutside w ram after) e → Leaves (λ s after. EqualOutside w first after) e
-  leaves-outside w first ram (goesOn r after) o l = outside-trans w first ram after o l
-  leaves-outside w first ram (exits x r after) o l = outside-trans w first ram after o l
+  leaves-outside w first ram (goesOn r after) o l = equal-on _ first ram after o l
+  leaves-outside w first ram (exits x r after) o l = equal-on _ first ram after o l
   leaves-outside w first ram (faults f) o l = tt
   leaves-outside w first ram unlisted o l = tt
 
@@ -92,14 +71,8 @@ module _ (m : Machine) (inside : WithinWindow m) (meets : (c : m .Call) → m .g
       go accepted =
           run-keeps (m .instruction (h .setting)) (λ s after. EqualOutside w (h .ram) after)
           (λ s after o. leaves-outside w (h .ram) after (m .instruction (h .setting) s after) o (inside .writes-inside (h .setting) s after))
-          (h .budget) 0 (h .rec) (h .ram) (outside-refl w (h .ram))
-      go (refused n values) = outside-refl w (h .ram)
-
-  pub call-outside : (c : m .Call) → EqualOutside (windowOn m c) (m .handed c .ram) (m .gave c .ram)
-  call-outside c = rw (meets c) (called-outside (m .handed c))
-
-  refused-ram : (c : m .Call) → Refuses m (m .handed c) → m .gave c .ram ≡ m .handed c .ram
-  refused-ram c why = ap (λ (x : Result). x .ram) (meets c) ∙ rw (why .2)
+          (h .budget) 0 (h .rec) (h .ram) (equal-same _ (h .ram))
+      go (refused n values) = equal-same _ (h .ram)
 
   -- ---- two calls
 
@@ -123,12 +96,16 @@ module _ (m : Machine) (inside : WithinWindow m) (meets : (c : m .Call) → m .g
           ran (runs-alike w w (EqualInside w) (m .instruction setting) (m .instruction setting) (inside .reads-inside setting) total 0 r a b e)
       go (refused n values) = record { stop = refl; steps = refl; rec = refl; ram = e }
 
+module _ (m : Machine) (inside : WithinWindow m) (meets : (c : m .Call) → m .gave c ≡ called m (m .handed c)) where
+  pub call-outside : (c : m .Call) → EqualOutside (windowOn m c) (m .handed c .ram) (m .gave c .ram)
+  call-outside c = rw (meets c) (called-outside m inside (m .handed c))
+
   calls-equal : (c d : m .Call) → m .handed c .setting ≡ m .handed d .setting → m .handed c .budget ≡ m .handed d .budget
       → m .handed c .rec ≡ m .handed d .rec → EqualInside (windowOn m c) (m .handed c .ram) (m .handed d .ram)
       → EqualBut (EqualInside (windowOn m c)) (m .gave c) (m .gave d)
   calls-equal c d setting budget rec ram =
       rw (meets c, meets d, ← setting, ← budget, ← rec)
-      (called-equal (m .handed c .setting) (m .handed c .budget) (m .handed c .rec) (m .handed c .ram) (m .handed d .ram) ram)
+      (called-equal m inside (m .handed c .setting) (m .handed c .budget) (m .handed c .rec) (m .handed c .ram) (m .handed d .ram) ram)
 
   -- ---- calls in turn, and series
 
@@ -150,8 +127,8 @@ module _ (m : Machine) (inside : WithinWindow m) (meets : (c : m .Call) → m .g
 
       handed : EqualInside (ownWindow m) (m .handed c .ram) (m .handed d .ram)
       handed =
-          inside-trans (ownWindow m) (m .handed c .ram) (s .ram) (m .handed d .ram) (g .1 .1)
-          (inside-trans (ownWindow m) (s .ram) (t .ram) (m .handed d .ram) (e .1) (inside-sym (ownWindow m) (m .handed d .ram) (t .ram) (h .1 .1)))
+          equal-on _ (m .handed c .ram) (s .ram) (m .handed d .ram) (g .1 .1)
+          (equal-on _ (s .ram) (t .ram) (m .handed d .ram) (e .1) (equal-back _ (m .handed d .ram) (t .ram) (h .1 .1)))
 
       one : EqualBut (EqualInside (ownWindow m)) (m .gave c) (m .gave d)
       one =
@@ -166,7 +143,7 @@ module _ (m : Machine) (inside : WithinWindow m) (k : KeepsAdmitted m) where
   own-turns [] s h = (tt, refl)
   own-turns (own c ∷ cs) s h =
       let rest = own-turns cs (gaveState m c) (h .1) in
-      let handed : EqualStates m (handedState m c) s = rw (h .0 .1) (refl, inside-refl (ownWindow m) (s .ram)) in
+      let handed : EqualStates m (handedState m c) s = rw (h .0 .1) (refl, equal-same _ (s .ram)) in
       ((h .0 .0, handed, rest .0), rest .1)
   own-turns (other seriesRecord seriesRam c ∷ cs) s h =
       let still = other-stays m k seriesRecord seriesRam c s (h .0) in
@@ -182,16 +159,22 @@ module _ (m : Machine) (inside : WithinWindow m) (k : KeepsAdmitted m) where
       let two = own-turns ds t h in
       rw (one .1, two .1) (turns-equal m inside (k .meets) (ownCalls m cs) (ownCalls m ds) s t (one .0) (two .0) e b)
 
+  -- a refused call gives back the RAM that it was handed
+  refused-ram : (c : m .Call) → Refuses m (m .handed c) → m .gave c .ram ≡ m .handed c .ram
+  refused-ram c why = ap (λ (x : Result). x .ram) (refused-back m k c why)
+
+  -- a call with a window leaves the bytes outside it
+  window-stays : (w : Window) (c : m .Call) → windowOn m c ≡ w → EqualOutside w (m .handed c .ram) (m .gave c .ram)
+  window-stays w c e = subst (λ x. EqualOutside x (m .handed c .ram) (m .gave c .ram)) e (call-outside m inside (k .meets) c)
+
   pub keeps-to-window : KeepsToWindow m
   keeps-to-window = record {
     outside-stays = λ w cs ram h.
-        rams-stay (gaveRam m) (handedRam m) (λ c. windowOn m c ≡ w) (λ c. Refuses m (m .handed c)) w
-        (λ c e. subst (λ x. EqualOutside x (m .handed c .ram) (m .gave c .ram)) e (call-outside m inside (k .meets) c))
-        (refused-ram m inside (k .meets)) cs (ramAlone ram) h;
+        rams-stay (λ c. ramAlone (m .gave c .ram)) (λ c. ramAlone (m .handed c .ram)) (λ c. windowOn m c ≡ w) (λ c. Refuses m (m .handed c)) w
+        (window-stays w) refused-ram cs (ramAlone ram) h;
     series-stays = λ cs s h.
         rams-stay (gaveState m) (handedState m) (OwnSetting m) (λ c. Refuses m (m .handed c)) (ownWindow m)
-        (λ c e. subst (λ x. EqualOutside x (m .handed c .ram) (m .gave c .ram)) (ap (m .window) e) (call-outside m inside (k .meets) c))
-        (refused-ram m inside (k .meets)) cs s h;
+        (λ c e. window-stays (ownWindow m) c (ap (m .window) e)) refused-ram cs s h;
     equal-calls = calls-equal m inside (k .meets);
     equal-in-turn = turns-equal m inside (k .meets);
     equal-series = series-equal;

@@ -18,6 +18,17 @@ RamAlone = Standing (Unit {0})
 abbrev pub ramAlone : List ℕ → RamAlone
 ramAlone ram = record { rec = tt; ram = ram }
 
+module _ {Call : Type 0} (handed gave : Call → List ℕ) (windowOn : Call → Window) (Refused : Call → Type 0) where
+  -- calls in a row over one RAM: each is handed the RAM that the one before left. Own calls have this window; all else that they are
+  -- handed is theirs, as program and record. The others are refused, whatever their window is
+  abbrev pub OverOneRam : Window → List (InSeries Call) → List ℕ → Type 0
+  OverOneRam w cs ram = HandedOn (λ c. ramAlone (gave c)) (λ c. ramAlone (handed c)) (λ c. windowOn c ≡ w) Refused cs (ramAlone ram)
+
+  -- bytes outside the window stay
+  abbrev pub OutsideStays : Type 0
+  OutsideStays = (w : Window) (cs : List (InSeries Call)) (ram : List ℕ) → OverOneRam w cs ram
+      → EqualOutside w ram (leftByAll (λ c. ramAlone (gave c)) cs (ramAlone ram) .ram)
+
 -- ---- results one by one
 
 abbrev pub EqualAll : Window → List Result → List Result → Type 0
@@ -27,23 +38,8 @@ EqualAll w (x ∷ xs) [] = ⊥
 EqualAll w (x ∷ xs) (y ∷ ys) = EqualBut (EqualInside w) x y × EqualAll w xs ys
 
 module _ (m : Machine) where
-  abbrev pub handedRam : m .Call → RamAlone
-  handedRam c = ramAlone (m .handed c .ram)
-
-  abbrev pub gaveRam : m .Call → RamAlone
-  gaveRam c = ramAlone (m .gave c .ram)
-
   abbrev pub windowOn : m .Call → Window
   windowOn c = m .window (m .handed c .setting)
-
-  -- calls in a row over one RAM: each is handed the RAM that the one before left. Own calls have this window; all else that they are
-  -- handed is theirs, as program and record. The others are refused, whatever their window is
-  abbrev pub OverOneRam : Window → List (InSeries (m .Call)) → List ℕ → Type 0
-  OverOneRam w cs ram = HandedOn gaveRam handedRam (λ c. windowOn c ≡ w) (λ c. Refuses m (m .handed c)) cs (ramAlone ram)
-
-  -- the RAM that they leave
-  abbrev pub leftRam : List (InSeries (m .Call)) → List ℕ → List ℕ
-  leftRam cs ram = leftByAll gaveRam cs (ramAlone ram) .ram
 
   -- ---- calls with the machine's setting
 
@@ -75,8 +71,7 @@ module _ (m : Machine) where
   ownCalls (other seriesRecord seriesRam c ∷ cs) = ownCalls cs
 
   pub record KeepsToWindow : Type 0 where
-    -- bytes outside the window stay
-    pub outside-stays : (w : Window) (cs : List (InSeries (m .Call))) (ram : List ℕ) → OverOneRam w cs ram → EqualOutside w ram (leftRam cs ram)
+    pub outside-stays : OutsideStays (λ c. m .handed c .ram) (λ c. m .gave c .ram) windowOn (λ c. Refuses m (m .handed c))
     -- in a series too, where the record is handed on with RAM
     pub series-stays : (cs : List (InSeries (m .Call))) (s : State) → Series m cs s
         → EqualOutside ownWindow (s .ram) (leftByAll (gaveState m) cs s .ram)

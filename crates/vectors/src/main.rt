@@ -1,8 +1,8 @@
 // Runs the pages and edges of the build paper that are not starred, and the refusals, and prints what came out.
 use endian::Size;
+use memory::Attempt;
 use memory::Fault;
 use memory::Loaded;
-use memory::Stored;
 use platform::Platform;
 use refusal::Refusal;
 use refusal::Verdict;
@@ -301,10 +301,10 @@ fn store(window: Window, ram: &mut [u8], size: Size, offset: u32) {
     show_number(offset as u64);
     let stored = memory::store_by(Base::Ram(offset), window, ram, 0, size, 0x1234_5678);
     match stored {
-        Stored::Done => {
+        Attempt::Done => {
             show(b" done\n");
         }
-        Stored::Fails(fault) => {
+        Attempt::Fails(fault) => {
             show_fault(fault);
         }
     }

@@ -1,4 +1,4 @@
--- Windows: the part of RAM that a run may read and write.
+-- 02's windows: the part of RAM that a run may read and write.
 use Prim.Native.Nat.{ℕ, _+_, _≤_, _<_}
 use mathlib.Core.Bool.{Bool, not, _&&_}
 use mathlib.Core.List.{List, []}
@@ -34,9 +34,14 @@ insideWindow w at bytes = leb (w .start) at && leb (at + bytes) (w .end)
 abbrev pub Inside : Window → ℕ → Type 0
 Inside w k = (w .start ≤ k) × (k < w .end)
 
--- RAMs of one length whose bytes inside are equal, and whose bytes outside are
-abbrev pub EqualInside : Window → List ℕ → List ℕ → Type 0
-EqualInside w a b = (length a ≡ length b) × ((k : ℕ) → Inside w k → getD a k 0 ≡ getD b k 0)
+-- RAMs of one length that have equal bytes at some offsets
+abbrev pub EqualAt : (ℕ → Type 0) → List ℕ → List ℕ → Type 0
+EqualAt At a b = (length a ≡ length b) × ((k : ℕ) → At k → getD a k 0 ≡ getD b k 0)
 
+-- inside a window
+abbrev pub EqualInside : Window → List ℕ → List ℕ → Type 0
+EqualInside w = EqualAt (Inside w)
+
+-- outside it
 abbrev pub EqualOutside : Window → List ℕ → List ℕ → Type 0
-EqualOutside w a b = (length a ≡ length b) × ((k : ℕ) → (Inside w k → ⊥) → getD a k 0 ≡ getD b k 0)
+EqualOutside w = EqualAt (λ k. Inside w k → ⊥)

@@ -1,4 +1,4 @@
-// A window of RAM: what of it a run may read and write.
+// 02's window of RAM: what of it a run may read and write.
 ghost use mathlib.Core.List.{[], _∷_};
 ghost use mathlib.Core.Path.{_≡_};
 ghost use Rattle.refusal.specs.Refusals.{decision, decisionOf};
@@ -12,7 +12,7 @@ pub struct Window {
     pub end: u32,
 }
 
-// What the runner gives.
+// All of RAM, as the runner gives it.
 pub fn whole_ram() -> Window
     ensures { λ w. ⌜ w ≡ wholeRam ⌝ }
 {

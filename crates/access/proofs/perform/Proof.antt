@@ -30,23 +30,23 @@ returns-6 c = rw (c .before .before .before .before .before .access6 .given .1) 
 
 returns-7 : tie.Need-returns-7
 unfolding accessed
-returns-7 c = rw (c .before .before .before .access7 .given .1) (c .load-base .ensures, load-ram _ _ _ _)
+returns-7 c = rw (c .before .before .before .access7 .given .1) (c .load .ensures, load-ram _ _ _ _)
 
 returns-8 : tie.Need-returns-8
 unfolding accessed
-returns-8 c = rw (c .before .before .before .access8 .given .1) (c .load-base2 .ensures, load-ram _ _ _ _)
+returns-8 c = rw (c .before .before .before .access8 .given .1) (c .load2 .ensures, load-ram _ _ _ _)
 
 returns-9 : tie.Need-returns-9
 unfolding accessed
-returns-9 c = rw (c .before .before .before .access9 .given .1) (c .load-base3 .ensures, load-ram _ _ _ _)
+returns-9 c = rw (c .before .before .before .access9 .given .1) (c .load3 .ensures, load-ram _ _ _ _)
 
 returns-10 : tie.Need-returns-10
 unfolding accessed
-returns-10 c = rw (c .before .before .before .access10 .given .1) (c .load-signed .ensures, load-ram _ _ _ _)
+returns-10 c = rw (c .before .before .before .access10 .given .1) (c .signed .ensures, load-ram _ _ _ _)
 
 returns-11 : tie.Need-returns-11
 unfolding accessed
-returns-11 c = rw (c .before .before .before .access11 .given .1) (c .load-signed2 .ensures, load-ram _ _ _ _)
+returns-11 c = rw (c .before .before .before .access11 .given .1) (c .signed2 .ensures, load-ram _ _ _ _)
 
 pub perform-spec : {M : Type 1} → statement M
 perform-spec = tie.close (tie.spec (λ c. search needs) (λ c. search needs) (λ c κs. tt) (λ c κs. tt)

@@ -1,8 +1,0 @@
-use Rattle.access.proofs.load_base.Statement.{statement}
-use Rattle.access.proofs.load_base.Tie as tie
-
-returns : tie.Need-returns
-returns c = rw (← c .before .loaded-by .ensures) (c .load-to .ensures _)
-
-pub load-base-spec : {M : Type 1} → statement M
-load-base-spec = tie.close (tie.spec (λ c κs. tt) (λ c κs. tt) returns)
