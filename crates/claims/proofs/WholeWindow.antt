@@ -29,7 +29,7 @@ use Rattle.plain.specs.PlainMachine.{Effect, goesOn, exits, faults, unlisted, R
 use Rattle.plain.specs.Calls.{callBy}
 use Rattle.plain.proofs.Alike.{goOn, exit, mark, EffectsAlike, RunsAlike, equal, outside, runs-alike}
 use Rattle.instruction.specs.Instructions.{instructionOf}
-use Rattle.instruction.proofs.Alike.{instructions-alike}
+use Rattle.instruction.proofs.Windows.{instructions-alike}
 use Rattle.admission.specs.RunRefusals.{runDecision}
 use Rattle.machine.specs.Runs.{runOf}
 use Rattle.claims.specs.WholeWindow.{unwindowed, WholeWindow}

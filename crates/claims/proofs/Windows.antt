@@ -18,7 +18,7 @@ use Rattle.series.specs.Machine.{Handed, called}
 use Rattle.series.specs.Windows.{KeepsToWindow}
 use Rattle.series.proofs.Windows.{WithinWindow, keeps-to-window}
 use Rattle.instruction.specs.Instructions.{instructionOf}
-use Rattle.instruction.proofs.Alike.{instructions-alike}
+use Rattle.instruction.proofs.Windows.{instructions-alike}
 use Rattle.admission.specs.RunRefusals.{runDecision}
 use Rattle.claims.proofs.Machines.{keeps-admitted, meets}
 use Rattle.claims.specs.Demand3.{machineOf, CodeCall, handedTo, gaveBy, machine}

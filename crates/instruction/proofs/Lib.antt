@@ -5,4 +5,4 @@ pub mod ReadsAtPlace
 pub mod Unlisted
 pub mod Words
 pub mod WordsKept
-pub mod Alike
+pub mod Windows
