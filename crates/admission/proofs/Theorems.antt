@@ -16,6 +16,7 @@ use Rattle.state.specs.FitRecord.{fitRecord, fitRules}
 use Rattle.state.specs.Validation.{externalFits}
 use Rattle.state.specs.declared.Record.{Record}
 use Rattle.state.proofs.Theorems.{accepted-where-fit}
+use Rattle.count.specs.Count.{countProgram}
 use Rattle.place.specs.Places.{fitPlace}
 use Rattle.admission.specs.RunRefusals.{areaRules, placeRule, recordRules, runDecision}
 
@@ -26,11 +27,12 @@ pub accepts : (setting : Setting) (r : Record) (ram : List ℕ) → decision (pr
 unfolding runDecision
 accepts setting r ram p n e w f g =
     let external = length (setting .external) in
+    let count = countProgram (setting .program) .count in
     let both = program-accepted (setting .program) p in
     let areas : decision (areaRules setting ram) ≡ accepted = rw (both .0, both .1, eq-eqb _ _ n, e, w) in
     let fits = is-accepted _ (accepted-where-fit r external ∙ f) in
-    after (areaRules setting ram) (recordRules (setting .program) external r) accepted (sym areas)
-    ∙ after (fitRules r external) (placeRule (setting .program) (r .place) ∷ []) accepted (sym fits) ∙ rw g
+    after (areaRules setting ram) (recordRules (setting .program) count external r) accepted (sym areas)
+    ∙ after (fitRules r external) (placeRule (setting .program) count (r .place) ∷ []) accepted (sym fits) ∙ rw g
 
 -- and only that is accepted
 pub accepted-all : (setting : Setting) (r : Record) (ram : List ℕ) → runDecision setting r ram ≡ accepted
@@ -43,8 +45,9 @@ pub accepted-all : (setting : Setting) (r : Record) (ram : List ℕ) → runDeci
 unfolding runDecision
 accepted-all setting r ram e =
     let external = length (setting .external) in
-    let parts = all-accepted (areaRules setting ram) (recordRules (setting .program) external r) e in
-    let of-record = all-accepted (fitRules r external) (placeRule (setting .program) (r .place) ∷ []) (parts .1) in
+    let count = countProgram (setting .program) .count in
+    let parts = all-accepted (areaRules setting ram) (recordRules (setting .program) count external r) e in
+    let of-record = all-accepted (fitRules r external) (placeRule (setting .program) count (r .place) ∷ []) (parts .1) in
     let known = passes _ 18 [] _ (parts .0) in
     let first = passes (pageFits (setting .program .page)) 1 [] _ (known .1) in
     let second = passes (eqb (length ram) 32768) 2 [] _ (first .1) in

@@ -16,7 +16,7 @@ use Rattle.state.specs.FitRecord.{fitRecord}
 use Rattle.state.specs.Validation.{externalFits}
 use Rattle.state.specs.declared.Record.{Record}
 use Rattle.state.specs.Record.{freshRecord, withPlace}
-use Rattle.place.specs.Places.{fitPlace}
+use Rattle.place.specs.Places.{fitBelow}
 use Rattle.series.specs.Series.{State}
 use Rattle.instruction.specs.Fitness.{Fit}
 use Rattle.instruction.proofs.FitPlaces.{bundle-fits}
@@ -87,6 +87,6 @@ admitted setting allowed ram n k l =
 
 pub none-admitted : (setting : Setting) → Allowed setting → (ram : List ℕ) → length ram ≡ 32768
     → countOf (setting .program) ≡ 0 → runDecision setting freshRecord ram ≡ refused 5 []
-unfolding runDecision fitRecord fitPlace
+unfolding runDecision fitRecord fitBelow
 none-admitted setting allowed ram n z =
     rw (allowed .profileKnown, allowed .pageAllowed, eq-eqb _ _ n, allowed .externalAllowed, allowed .windowAllowed, le-ltb 0 (countOf (setting .program)) (omega (arith, z)))

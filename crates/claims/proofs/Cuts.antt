@@ -18,7 +18,7 @@ use Rattle.state.specs.Record.{freshRecord, withRegister, withPlace}
 use Rattle.stop.specs.Stops.{budget}
 use Rattle.writing.specs.Writes.{applied}
 use Rattle.effects.specs.ServiceEffects.{leavesNone, serviceDoes}
-use Rattle.place.specs.Places.{standsIn, instructionAt, following, secondFits, fitPlace}
+use Rattle.place.specs.Places.{standsIn, instructionAt, following, secondFits, fitBelow}
 use Rattle.instruction.specs.Instructions.{endAt, branchTo, exitOf, servedBy, served, effectOf, instructionOf}
 use Rattle.admission.specs.RunRefusals.{runDecision}
 use Rattle.plain.specs.PlainMachine.{Result, goesOn, plain}
@@ -38,7 +38,7 @@ loop-spends zero steps ram = ap (λ n. spentAfter n ram) (omega arith)
 loop-spends (suc left) steps ram = rw (loop-goes-on ram) (loop-spends left (steps + 1) ram ∙ ap (λ n. spentAfter n ram) (omega arith))
 
 pub cuts : CutsInAnyRam
-unfolding greatestClosed allWithin successorsOf flowOf bundleAt serviceOf byLowByte halfwordAt pageFits opens32 decodeBy rowsIn matches instructionOf instructionAt standsIn following effectOf endAt exitOf servedBy served leavesNone serviceDoes applied withRegister withPlace runDecision externalFits secondFits fitPlace plain
+unfolding greatestClosed allWithin successorsOf flowOf bundleAt serviceOf byLowByte halfwordAt pageFits opens32 decodeBy rowsIn matches instructionOf instructionAt standsIn following effectOf endAt exitOf servedBy served leavesNone serviceDoes applied withRegister withPlace runDecision externalFits secondFits fitBelow plain
 cuts ram n = record {
   loops = λ a. rw (eq-eqb _ _ n) (loop-spends a 0 ram ∙ ap (λ k. spentAfter k ram) (omega arith));
   first = rw (eq-eqb _ _ n);

@@ -28,7 +28,7 @@ use Rattle.bundle.proofs.Theorems.{SameEnding, terminator-same, flow-same}
 use Rattle.bundle.specs.Successors.{successorsOf}
 use Rattle.count.specs.Count.{countOf}
 use Rattle.state.specs.declared.Record.{Record}
-use Rattle.place.specs.Places.{isEven, standsIn, instructionAt, secondFits, fitPlace}
+use Rattle.place.specs.Places.{isEven, standsIn, instructionAt, secondFits, fitBelow, fitPlace}
 use Rattle.instruction.specs.Fitness.{isExit}
 use Rattle.instruction.specs.Instructions.{served, effectOf, instructionOf}
 use Rattle.instruction.proofs.FitPlaces.{Straight, wide-straight}
@@ -111,7 +111,7 @@ module _ (page : List ℕ) (platform : Platform) (a b : ℕ) where
     count-same = ap (λ (next : ℕ → Successors). greatestClosed next (bundlesIn page)) (λ i k. successors-same k (h (2 * k)) (h (2 * k + 1)) i)
 
     fit-same : (place : ℕ) → fitPlace one place ≡ fitPlace other place
-    unfolding fitPlace secondFits
+    unfolding fitBelow secondFits
     fit-same place = rw (count-same, terminator-same one other (decode16In one (firstOf page (place / 2))) (h (2 * (place / 2))))
 
     decision-same : (external : List ℕ) (window : Window) (r : Record) (ram : List ℕ)

@@ -19,13 +19,13 @@ use Rattle.state.specs.Record.{withRegister, withSp, withPlace, withBase}
 use Rattle.writing.specs.Writes.{applied}
 use Rattle.access.specs.Outcomes.{loadTo, storeWith}
 use Rattle.access.specs.LoadsAndStores.{stackStored, afterStackStore, accessed}
-use Rattle.place.specs.Places.{standsIn, instructionAt, following, secondFits, fitPlace}
+use Rattle.place.specs.Places.{standsIn, instructionAt, following, secondFits, fitBelow}
 use Rattle.instruction.specs.Instructions.{endAt, effectOf, instructionOf}
 use Rattle.admission.specs.RunRefusals.{runDecision}
 use Rattle.claims.specs.WindowEdges.{WindowEdges}
 
 pub window-edges : (ram : List ℕ) → WindowEdges ram
-unfolding greatestClosed allWithin successorsOf flowOf serviceOf byLowByte halfwordAt pageFits opens32 decodeBy rowsIn matches instructionOf instructionAt standsIn following effectOf endAt applied withRegister withSp withPlace withBase accessed loadTo storeWith stackStored afterStackStore loadedBy storedBy afterStoreBy ramAccess ramLoaded ramAfter insideWindow runDecision externalFits fitRecord secondFits fitPlace
+unfolding greatestClosed allWithin successorsOf flowOf serviceOf byLowByte halfwordAt pageFits opens32 decodeBy rowsIn matches instructionOf instructionAt standsIn following effectOf endAt applied withRegister withSp withPlace withBase accessed loadTo storeWith stackStored afterStackStore loadedBy storedBy afterStoreBy ramAccess ramLoaded ramAfter insideWindow runDecision externalFits fitRecord secondFits fitBelow
 window-edges ram = record {
   stores = refl;
   loads = refl;

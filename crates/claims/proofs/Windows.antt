@@ -1,4 +1,4 @@
--- Calls keep to their window, the code's and any others that meet their contract.
+-- Calls keep to their window, the code's and any others of the build paper's machine that meet their contract.
 use Prim.Native.Nat.{ℕ}
 use mathlib.Core.List.{List}
 use mathlib.Core.Path.{_≡_, refl}
@@ -11,17 +11,16 @@ use Rattle.memory.proofs.Alike.{both}
 use Rattle.memory.proofs.Alike as alike
 use Rattle.memory.proofs.Windows.{equal-inside, stays-outside}
 use Rattle.state.specs.declared.Record.{Record}
-use Rattle.plain.specs.PlainMachine.{Effect, Result}
+use Rattle.plain.specs.PlainMachine.{Effect}
 use Rattle.plain.proofs.Alike.{goOn, exit, mark, EffectsAlike}
 use Rattle.plain.proofs.Runs.{Leaves}
-use Rattle.series.specs.Machine.{Handed, called}
 use Rattle.series.specs.Windows.{KeepsToWindow}
 use Rattle.series.proofs.Windows.{WithinWindow, keeps-to-window}
 use Rattle.instruction.specs.Instructions.{instructionOf}
 use Rattle.instruction.proofs.Windows.{instructions-alike}
 use Rattle.admission.specs.RunRefusals.{runDecision}
-use Rattle.claims.proofs.Machines.{keeps-admitted, meets}
-use Rattle.claims.specs.Demand3.{machineOf, CodeCall, handedTo, gaveBy, machine}
+use Rattle.claims.proofs.Machines.{code-keeps}
+use Rattle.claims.specs.Demand3.{lonePage, CodeCall, handedTo, gaveBy, machine}
 
 -- what is kept in two RAMs that are one
 leaves : (w : Window) (P : List ℕ → Type 0) (e : Effect) → EffectsAlike w w (λ a b. (a ≡ b) × P a) e e → Leaves (λ s after. P after) e
@@ -43,22 +42,14 @@ by-length : (setting : Setting) (r : Record) (a b : List ℕ) → length a ≡ l
 unfolding runDecision
 by-length setting r a b e = rw e
 
-pub within-window : (Call : Type 0) (handed : Call → Handed Setting) (gave : Call → Result) (setting : Setting)
-    → WithinWindow (machineOf Call handed gave setting)
-within-window Call handed gave setting = record {
+pub within-window : WithinWindow lonePage
+within-window = record {
   reads-inside = λ s r a b e.
       instructions-alike (s .window) (s .window) _ (equal-inside (s .window)) r a b e (s .program) (s .external);
   writes-inside = writes-inside;
   refuses-by-length = by-length;
 }
 
--- of any calls that give what the plain machine, or the refusal, gives
-pub keeps-to-window-of : (Call : Type 0) (handed : Call → Handed Setting) (gave : Call → Result)
-    → ((setting : Setting) (c : Call) → gave c ≡ called (machineOf Call handed gave setting) (handed c))
-    → (setting : Setting) → KeepsToWindow (machineOf Call handed gave setting)
-keeps-to-window-of Call handed gave meets setting =
-    keeps-to-window (machineOf Call handed gave setting) (within-window Call handed gave setting) (keeps-admitted Call handed gave meets setting)
-
 -- of `run` and `step`, with any setting
 pub code-keeps-to-window : (setting : Setting) → KeepsToWindow (machine setting)
-code-keeps-to-window = keeps-to-window-of CodeCall handedTo gaveBy meets
+code-keeps-to-window setting = keeps-to-window lonePage within-window CodeCall handedTo gaveBy setting (code-keeps setting)

@@ -13,7 +13,7 @@ use Rattle.window.specs.Windows.{windowFits}
 use Rattle.platform.specs.Programs.{Setting, programOf, settingOf}
 use Rattle.state.specs.Validation.{externalFits}
 use Rattle.plain.specs.PlainMachine.{Result}
-use Rattle.series.specs.Machine.{Handed, Machine}
+use Rattle.series.specs.Machine.{Handed, Kind, Machine, machineOf}
 use Rattle.series.specs.Series.{State}
 use Rattle.instruction.specs.Instructions.{instructionOf}
 use Rattle.instruction.specs.Fitness.{Fit, Starts, ServiceAt, Known}
@@ -37,20 +37,16 @@ pub record Allowed (s : Setting) : Type 0 where
 abbrev pub FitStart : Setting → State → Type 0
 FitStart setting start = Fit setting (start .rec) (start .ram)
 
--- the build paper's machine, with any calls, of which a series' own get this setting
-abbrev pub machineOf : (Call : Type 0) → (Call → Handed Setting) → (Call → Result) → Setting → Machine
-machineOf Call handed gave setting = record {
+-- the build paper's machine, with a page by itself
+abbrev pub lonePage : Kind
+lonePage = record {
   Setting = Setting;
-  setting = setting;
   instruction = instructionOf;
   decision = runDecision;
   window = λ s. s .window;
-  Starts = Starts (setting .program);
-  ServiceAt = ServiceAt (setting .program);
+  Starts = λ s. Starts (s .program);
+  ServiceAt = λ s. ServiceAt (s .program);
   Known = Known;
-  Call = Call;
-  handed = handed;
-  gave = gave;
 }
 
 -- ---- the code's calls
@@ -83,4 +79,4 @@ gaveBy (ofStep κs a x s contract) = seen x (now (s .1 .1 .0))
 
 -- the machine with the code's own calls
 abbrev pub machine : Setting → Machine
-machine = machineOf CodeCall handedTo gaveBy
+machine = machineOf lonePage CodeCall handedTo gaveBy

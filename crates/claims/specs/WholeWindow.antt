@@ -20,6 +20,7 @@ use Rattle.state.specs.Validation.{externalRule}
 use Rattle.state.specs.declared.Record.{Record}
 use Rattle.stop.specs.Stops.{fault}
 use Rattle.plain.specs.PlainMachine.{faults}
+use Rattle.count.specs.Count.{countProgram}
 use Rattle.admission.specs.RunRefusals.{ramRule, recordRules, runDecision}
 use Rattle.instruction.specs.Instructions.{instructionOf}
 use Rattle.machine.specs.Runs.{runOf}
@@ -39,7 +40,7 @@ pub record WholeWindow : Type 0 where
   pub refusals : (setting : Setting) (r : Record) (ram : List ℕ)
       → runDecision (unwindowed setting) r ram
       ≡ decision ((programRules (setting .program) ++ (ramRule ram ∷ externalRule (length (setting .external)) ∷ []))
-      ++ recordRules (setting .program) (length (setting .external)) r)
+      ++ recordRules (setting .program) (countProgram (setting .program) .count) (length (setting .external)) r)
   -- fault 7 is never met, by an instruction or in a run
   pub never-met : (setting : Setting) (r : Record) (ram : List ℕ) → instructionOf (unwindowed setting) r ram ≡ faults OutsideWindow → ⊥
   pub never-stops : (setting : Setting) (budget : ℕ) (r : Record) (ram : List ℕ) → runOf (unwindowed setting) budget r ram .stop ≡ fault 7 → ⊥

@@ -1,5 +1,4 @@
-pub mod HeldAfter
-pub mod Refused
+pub mod HostCalls
 pub mod HostDemand3
 pub mod HostExits
 pub mod HostStopAndGoOn

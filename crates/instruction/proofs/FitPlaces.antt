@@ -27,7 +27,7 @@ use Rattle.bundle.specs.declared.Jump.the-variants as jump
 use Rattle.bundle.specs.declared.Flow.{Flow}
 use Rattle.bundle.specs.declared.Flow.the-variants.{Bad, Next, NextOr, To, Ends}
 use Rattle.count.specs.Count.{countOf, countProgram}
-use Rattle.place.specs.Places.{isEven, standsIn, instructionAt, following, secondFits, fitPlace}
+use Rattle.place.specs.Places.{isEven, standsIn, instructionAt, following, secondFits, fitBelow, fitPlace}
 
 -- what holds of a flow's target and of what stands behind it; a bad flow leads nowhere
 abbrev Leads : (ℕ → Type 0) → Type 0 → Flow → Type 0
@@ -160,7 +160,7 @@ module _ (program : Program) (f : decision (programRules program) ≡ accepted) 
 
   fits : (place : ℕ) → place / 2 < countOf program
       → (isEven place || secondFits program (firstOf (program .page) (place / 2)) (secondOf (program .page) (place / 2))) ≡ true → fitPlace program place ≡ true
-  unfolding fitPlace
+  unfolding fitBelow
   fits place l h = rw (counted, lt-ltb (place / 2) (countOf program) l) h
 
   -- every bundle below the count is fit to jump to
@@ -193,7 +193,7 @@ module _ (program : Program) (f : decision (programRules program) ≡ accepted) 
 
   -- from a fit place an instruction leads only to fit places
   pub leads : (place : ℕ) → fitPlace program place ≡ true → LeadsFrom program place (flowOf program place (instructionAt program place))
-  unfolding fitPlace following
+  unfolding fitBelow following
   leads place e =
       let h = both (ltb (place / 2) (countProgram program .count)) (isEven place || secondFits program first second) e in
       let l : place / 2 < countOf program = ltb-true (place / 2) (countOf program) (rw counted at (h .0)) in

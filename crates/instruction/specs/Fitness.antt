@@ -13,19 +13,27 @@ use Rattle.service.specs.declared.Ending.the-variants as ending
 use Rattle.state.specs.FitRecord.{fitRecord}
 use Rattle.state.specs.declared.Record.{Record}
 use Rattle.stop.specs.Stops.{Exit}
-use Rattle.place.specs.Places.{instructionAt, fitPlace}
+use Rattle.count.specs.Count.{countProgram}
+use Rattle.place.specs.Places.{instructionAt, fitBelow}
 use Rattle.instruction.specs.Instructions.{exitOf}
 
--- a fit record with a fit place, and RAM of its size
-pub record Fit (setting : Setting) (r : Record) (ram : List ℕ) : Type 0 where
+-- a fit record with a place that is fit by a count, and RAM of its size
+pub record FitBy (setting : Setting) (count : ℕ) (r : Record) (ram : List ℕ) : Type 0 where
   pub recordFits : fitRecord r (length (setting .external)) ≡ true
-  pub placeFits : fitPlace (setting .program) (r .place) ≡ true
+  pub placeFits : fitBelow (setting .program) count (r .place) ≡ true
   pub ramFits : length ram ≡ 32768
 
 -- a place starts a listed instruction if it is fit and what stands there matches a listed encoding
-pub record Starts (program : Program) (r : Record) : Type 0 where
-  pub placeFits : fitPlace program (r .place) ≡ true
+pub record StartsBy (program : Program) (count : ℕ) (r : Record) : Type 0 where
+  pub placeFits : fitBelow program count (r .place) ≡ true
   pub isListed : listed (instructionAt program (r .place)) ≡ true
+
+-- on a lone page, by its own count
+abbrev pub Fit : Setting → Record → List ℕ → Type 0
+Fit setting = FitBy setting (countProgram (setting .program) .count)
+
+abbrev pub Starts : Program → Record → Type 0
+Starts program = StartsBy program (countProgram program .count)
 
 -- the build paper's exits, terminators or not
 abbrev pub isExit : Ending → Bool

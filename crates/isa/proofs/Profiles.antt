@@ -3,9 +3,11 @@ use mathlib.Core.Path.{_≡_, refl, ap, _∙_}
 use mathlib.Core.Bool.{Bool, true, false, not, _||_, cond, true≢false}
 use mathlib.Core.List.{List, [], _∷_}
 use mathlib.Core.Logic.{_⊎_, inl, inr}
-use Prim.Native.Nat.{ℕ, zero, suc, _^_, _≤_, _<_}
+use Prim.Native.Nat.{ℕ, zero, suc, _^_}
 use native.Mathlib.Omega.{arith}
+use lib.Dec.{ltb}
 use lib.ListN.{take, drop}
+use borrow.Author.Tests.{le-ltb}
 use Rattle.laws.proofs.Tests.{both}
 use Rattle.isa.specs.Patterns.{matches}
 use Rattle.isa.specs.ListedEncodings.{Row, row, decodeBy, listed16, listed32, decode16Of}
@@ -108,15 +110,11 @@ same-or-unlisted fewer more s rows a w = go (hasAt fewer rows w) refl
 -- ---- the two profiles
 
 -- their numbers are those below 2
-pub known : (number : ℕ) → number < 2 → isKnown (profileOf number) ≡ true
-known zero l = refl
-known (suc zero) l = refl
-known (suc (suc n)) l = absurd (omega arith)
-
-pub not-known : (number : ℕ) → 2 ≤ number → isKnown (profileOf number) ≡ false
-not-known zero l = absurd (omega arith)
-not-known (suc zero) l = absurd (omega arith)
-not-known (suc (suc n)) l = refl
+-- the profiles that there are
+pub known-below : (number : ℕ) → ltb number 2 ≡ isKnown (profileOf number)
+known-below zero = refl
+known-below (suc zero) = refl
+known-below (suc (suc n)) = le-ltb (suc (suc n)) 2 (omega arith)
 
 pub whole : (rows : List Row) → rowsIn full rows ≡ rows
 unfolding rowsIn

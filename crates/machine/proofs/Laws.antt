@@ -191,16 +191,8 @@ data-turn setting total steps r s ram operation c next result l i e n w h =
 
 -- ---- a call
 
-module _ (setting : Setting) (total : ℕ) (r : Record) (ram : List ℕ) (v : Verdict) (e : decisionOf v ≡ runDecision setting r ram) where
-  decided : (d : Decision) → decisionOf v ≡ d → callBy d (instructionOf setting) total r ram ≡ runOf setting total r ram
-  decided d h = ap (λ (x : Decision). callBy x (instructionOf setting) total r ram) (sym h ∙ e)
-
-  pub refused-run : (why : Refusal) → v ≡ Refused why
-      → record { stop = stops.refused (refusalNumber why) (refusalValues why); steps = 0; rec = r; ram = ram } ≡ runOf setting total r ram
-  refused-run why h = decided (decisionOf (Refused why)) (ap decisionOf h)
-
-  pub accepted-run : (x : Result) → v ≡ Accepted → x ≡ plain (instructionOf setting) total 0 r ram → x ≡ runOf setting total r ram
-  accepted-run x h ran = ran ∙ decided accepted (ap decisionOf h)
-
-  pub accepted-short : v ≡ Accepted → length (setting .program .page) ≤ 256
-  accepted-short h = fitting (setting .program .page) (program-accepted (setting .program) (accepted-all setting r ram (sym e ∙ ap decisionOf h) .0) .1) .0
+-- a page that isn't refused is short
+pub accepted-short : (setting : Setting) (r : Record) (ram : List ℕ) (v : Verdict) → decisionOf v ≡ runDecision setting r ram → v ≡ Accepted
+    → length (setting .program .page) ≤ 256
+accepted-short setting r ram v e h =
+    fitting (setting .program .page) (program-accepted (setting .program) (accepted-all setting r ram (sym e ∙ ap decisionOf h) .0) .1) .0

@@ -1,7 +1,9 @@
 -- A run with a budget, and a step: its definition and its contract.
 use Prim.Native.Nat.{ℕ}
-use mathlib.Core.List.{List}
+use mathlib.Core.List.{List, [], _∷_}
 use mathlib.Core.Path.{_≡_}
+use Rattle.refusal.specs.Refusals.{decision}
+use Rattle.page.specs.Page.{pageRule}
 use Rattle.platform.specs.Programs.{Setting}
 use Rattle.state.specs.declared.Record.{Record}
 use Rattle.admission.specs.RunRefusals.{runDecision}
@@ -14,6 +16,10 @@ use Rattle.machine.specs.declared.Answer.{Answer}
 -- the plain machine's run, or the refusal
 abbrev pub runOf : Setting → ℕ → Record → List ℕ → Result
 runOf setting total r ram = callBy (runDecision setting r ram) (instructionOf setting) total r ram
+
+-- a run of what was admitted: of the refusals, 1 alone is tested
+abbrev pub admittedRun : Setting → ℕ → Record → List ℕ → Result
+admittedRun setting total r ram = callBy (decision (pageRule (setting .program .page) ∷ [])) (instructionOf setting) total r ram
 
 -- an answer and the RAM at exit, by the build paper's numbers and values
 abbrev pub seen : Answer → List ℕ → Result

@@ -15,12 +15,13 @@ ghost use Rattle.place.specs.Places.{instructionAt, following};
 ghost use Rattle.instruction.specs.Instructions.{branchTo, branchIf, exitOf, served, effectOf, instructionOf};
 ghost use Rattle.state.specs.Record.{register, withPlace};
 ghost use Rattle.machine.specs.Executed.{after, exitEnd, executedOf, endedBy, NotData, Executes, ExecutesAny};
-ghost use Rattle.machine.specs.Runs.{seen, Gives};
+ghost use Rattle.machine.specs.Runs.{admittedRun, seen, Gives};
 use access::Did;
 use branch::Target;
 use isa::Instruction;
 use memory::Fault;
 use platform::Platform;
+use refusal::Refusal;
 use refusal::Verdict;
 use service::Ending;
 use state::Record;
@@ -320,6 +321,24 @@ fn run_on(
         }
     }
     stopped(Stop::Budget, steps, r)
+}
+
+// A run of what was admitted by another table: the page's length alone is tested.
+pub fn run_admitted(
+    page: &[u8],
+    platform: Platform,
+    ram: &mut [u8],
+    external: &[u8],
+    window: Window,
+    r: Record,
+    budget: u32,
+) -> Answer
+    ensures { λ a. ⌜ seen a (now (ram .exit)) ≡ admittedRun (settingOf (programOf (now (page .entry)) platform) (now (external .entry)) window) budget r (now (ram .entry)) ⌝ }
+{
+    if !page::fits(page) {
+        return stopped(Stop::Refused(Refusal::PageLength), 0, r);
+    }
+    run_on(page, platform, external, window, r, ram, budget)
 }
 
 // A run with the build paper's budget.

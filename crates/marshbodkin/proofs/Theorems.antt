@@ -14,7 +14,7 @@ use Rattle.layout.proofs.Theorems.{held, same-values, bytes-kept}
 use Rattle.form.specs.Storing.{formRules, storeDecision, roomAfter}
 use Rattle.crossing.specs.Numbers.{stopNumbers}
 use Rattle.marshbodkin.specs.Crossing.{formDecision, formRoom}
-use Rattle.marshbodkin.specs.HostRuns.{hostRun}
+use Rattle.hosting.specs.HostRuns.{hostRun}
 
 -- the record that the bytes hold is stored as 01's call stores it
 module _ (bytes room : List ℕ) (h : holdsRecord bytes ≡ true) where

@@ -13,10 +13,13 @@ ghost use Rattle.count.specs.Count.{countProgram};
 ghost use Rattle.bundle.specs.Reader.{readBundle};
 ghost use Rattle.layout.specs.StoredForm.{roomWith};
 ghost use Rattle.packing.specs.Packing.{packDecision, pack, roomAfterPack, unpackDecision, roomAfterUnpack};
+ghost use Rattle.image.specs.Images.{imageOf};
+ghost use Rattle.image.specs.Index.{buildDecision, indexBuilt, replaceDecision, afterReplace};
+ghost use Rattle.image_runs.specs.ImageRuns.{imageSettingOf};
 ghost use Rattle.crossing.specs.Exits.{decodedExit};
 ghost use Rattle.crossing.specs.Numbers.{codeOf, positionOf, largestKind, largestNumber};
+ghost use Rattle.hosting.specs.HostRuns.{answered, hostRun, hostImageRun};
 ghost use Rattle.marshbodkin.specs.Crossing.{freshDecision, formDecision, formRoom};
-ghost use Rattle.marshbodkin.specs.HostRuns.{answered, hostRun};
 ghost use Rattle.marshbodkin.specs.Version.{libraryVersion};
 use crossing::StopNumbers;
 use platform::Platform;
@@ -222,20 +225,10 @@ pub extern "C" fn mb_raw_run(
         start: window_start,
         end: window_end,
     };
-    let held = layout::holds_record(&bytes[..]);
-    if let Verdict::Refused(_) = held {
-        let areas = admission::of_areas(page, platform, &ram[..], external, window);
-        let numbers = crossing::refused_with(refusal::first_of(areas, held));
-        *steps = 0;
-        return tell(numbers, kind, value, literal, position);
-    }
-    let before = layout::record_in(&bytes[..]);
-    let answer = machine::run(page, platform, ram, external, window, before, budget);
-    let stop = answer.stop;
-    let after = answer.after;
-    layout::write(after, bytes);
-    *steps = answer.steps;
-    tell(crossing::numbers_of(stop), kind, value, literal, position)
+    let hosted = hosting::run(page, platform, ram, external, window, bytes, budget);
+    let stop = hosted.stop;
+    *steps = hosted.steps;
+    tell(stop, kind, value, literal, position)
 }
 
 // A step is a run with budget 1.
@@ -276,6 +269,140 @@ pub extern "C" fn mb_raw_step(
     )
 }
 
+// ---- images
+
+// Builds the index of an image.
+#[no_mangle]
+pub extern "C" fn mb_raw_image_build(
+    image: &[u8],
+    index: &mut [u8],
+    never_return: u64,
+    profile: u32,
+) -> u32
+    ensures { λ code. ⌜ (code ≡ codeOf (buildDecision (imageOf (now (image .entry)) (now (index .entry)) (platformOf «never_return» profile))))
+        × (now (index .exit) ≡ indexBuilt (imageOf (now (image .entry)) (now (index .entry)) (platformOf «never_return» profile))) ⌝ }
+{
+    let platform = Platform {
+        never_return,
+        profile,
+    };
+    let verdict = image::build(image, index, platform);
+    crossing::code_of(verdict)
+}
+
+// Replaces a page of an image, and its byte of the index.
+#[no_mangle]
+pub extern "C" fn mb_raw_image_replace(
+    image: &mut [u8],
+    index: &mut [u8],
+    never_return: u64,
+    profile: u32,
+    number: u32,
+    page: &[u8],
+) -> u32
+    ensures { λ code. ⌜ (code ≡ codeOf (replaceDecision (imageOf (now (image .entry)) (now (index .entry)) (platformOf «never_return» profile)) number (now (page .entry))))
+        × (imageOf (now (image .exit)) (now (index .exit)) (platformOf «never_return» profile)
+        ≡ afterReplace (imageOf (now (image .entry)) (now (index .entry)) (platformOf «never_return» profile)) number (now (page .entry))) ⌝ }
+{
+    let platform = Platform {
+        never_return,
+        profile,
+    };
+    let verdict = image::replace(image, index, platform, number, page);
+    crossing::code_of(verdict)
+}
+
+// A run in a page of an image.
+#[no_mangle]
+pub extern "C" fn mb_raw_image_run(
+    image: &[u8],
+    index: &[u8],
+    never_return: u64,
+    profile: u32,
+    number: u32,
+    ram: &mut [u8],
+    external: &[u8],
+    window_start: u32,
+    window_end: u32,
+    bytes: &mut [u8],
+    budget: u32,
+    kind: &mut u32,
+    value: &mut u32,
+    literal: &mut u32,
+    position: &mut u32,
+    steps: &mut u32,
+) -> u32
+    ensures { λ code. ⌜ answered code (now (kind .exit)) (now (value .exit)) (now (literal .exit)) (now (position .exit)) (now (steps .exit)) (now (bytes .exit)) (now (ram .exit))
+        ≡ hostImageRun (imageSettingOf (imageOf (now (image .entry)) (now (index .entry)) (platformOf «never_return» profile)) (now (external .entry)) (windowOf «window_start» «window_end»)) number budget (now (bytes .entry)) (now (ram .entry)) ⌝ }
+{
+    let platform = Platform {
+        never_return,
+        profile,
+    };
+    let window = Window {
+        start: window_start,
+        end: window_end,
+    };
+    let hosted = hosting::run_in_image(
+        image,
+        index,
+        platform,
+        number,
+        ram,
+        external,
+        window,
+        bytes,
+        budget,
+    );
+    let stop = hosted.stop;
+    *steps = hosted.steps;
+    tell(stop, kind, value, literal, position)
+}
+
+// A step is a run with budget 1.
+#[no_mangle]
+pub extern "C" fn mb_raw_image_step(
+    image: &[u8],
+    index: &[u8],
+    never_return: u64,
+    profile: u32,
+    number: u32,
+    ram: &mut [u8],
+    external: &[u8],
+    window_start: u32,
+    window_end: u32,
+    bytes: &mut [u8],
+    kind: &mut u32,
+    value: &mut u32,
+    literal: &mut u32,
+    position: &mut u32,
+    steps: &mut u32,
+) -> u32
+    ensures { λ code. ⌜ answered code (now (kind .exit)) (now (value .exit)) (now (literal .exit)) (now (position .exit)) (now (steps .exit)) (now (bytes .exit)) (now (ram .exit))
+        ≡ hostImageRun (imageSettingOf (imageOf (now (image .entry)) (now (index .entry)) (platformOf «never_return» profile)) (now (external .entry)) (windowOf «window_start» «window_end»)) number 1 (now (bytes .entry)) (now (ram .entry)) ⌝ }
+{
+    mb_raw_image_run(
+        image,
+        index,
+        never_return,
+        profile,
+        number,
+        ram,
+        external,
+        window_start,
+        window_end,
+        bytes,
+        1,
+        kind,
+        value,
+        literal,
+        position,
+        steps,
+    )
+}
+
+// ---- what a stop asks
+
 // The exit of a low byte with its literal: what a stop at a service asks of the host.
 #[no_mangle]
 pub extern "C" fn mb_raw_exit(
@@ -302,7 +429,7 @@ pub extern "C" fn mb_raw_exit(
 
 const MAJOR: u32 = 0;
 
-const MINOR: u32 = 7;
+const MINOR: u32 = 8;
 
 const PATCH: u32 = 0;
 

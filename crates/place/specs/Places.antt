@@ -40,8 +40,12 @@ following page place = place + cond (opens32 (firstOf page (place / 2))) 2 1
 unfoldable pub secondFits : Program → ℕ → ℕ → Bool
 secondFits program first second = not (opens32 first) && not (opens32 second) && not (terminator program (decode16In program first))
 
--- the build paper's fit place: its bundle lies below the count; an odd place also needs such a bundle
-unfoldable pub fitPlace : Program → ℕ → Bool
-fitPlace program place =
-    ltb (place / 2) (countProgram program .count)
+-- fit by a count: its bundle lies below it; an odd place also needs such a bundle
+unfoldable pub fitBelow : Program → ℕ → ℕ → Bool
+fitBelow program count place =
+    ltb (place / 2) count
     && (isEven place || secondFits program (firstOf (program .page) (place / 2)) (secondOf (program .page) (place / 2)))
+
+-- the build paper's fit place: by the program's own count
+abbrev pub fitPlace : Program → ℕ → Bool
+fitPlace program place = fitBelow program (countProgram program .count) place

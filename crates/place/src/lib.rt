@@ -2,7 +2,7 @@
 ghost use mathlib.Core.Path.{_≡_};
 ghost use Rattle.platform.specs.Platforms.{encodingsOn};
 ghost use Rattle.platform.specs.Programs.{programOf};
-ghost use Rattle.place.specs.Places.{standsIn, instructionAt, following, secondFits, fitPlace};
+ghost use Rattle.place.specs.Places.{standsIn, instructionAt, following, secondFits, fitBelow};
 use isa::Instruction;
 use platform::Platform;
 
@@ -61,12 +61,11 @@ fn second_fits(page: &[u8], platform: Platform, leading: u16, second: u16) -> bo
     !bundle::is_terminator(page, platform, profile::decode16(platform, leading))
 }
 
-pub fn is_fit(page: &[u8], platform: Platform, place: u16) -> bool
-    ensures { λ t. ⌜ t ≡ fitPlace (programOf (now (page .entry)) platform) place ⌝ }
+pub fn is_fit(page: &[u8], platform: Platform, count: u32, place: u16) -> bool
+    ensures { λ t. ⌜ t ≡ fitBelow (programOf (now (page .entry)) platform) count place ⌝ }
 {
     let k = (place / 2) as u32;
-    let counted = count::count(page, platform);
-    if k >= counted.count {
+    if k >= count {
         return false;
     }
     if place % 2 == 0 {

@@ -2,3 +2,4 @@ pub mod Theorems
 pub mod Runs
 pub mod GoingOn
 pub mod Alike
+pub mod Calls

@@ -1,6 +1,7 @@
 // What a host says of its machine, and what of a program is refused.
 ghost use mathlib.Core.Path.{_≡_};
 ghost use Rattle.refusal.specs.Refusals.{decision, decisionOf};
+ghost use Rattle.isa.specs.Profiles.{profileOf, isKnown};
 ghost use Rattle.platform.specs.Platforms.{neverReturns, defaultPlatform};
 ghost use Rattle.platform.specs.Programs.{programOf, programRules};
 use refusal::Refusal;
@@ -32,11 +33,18 @@ pub fn default_platform() -> Platform
     }
 }
 
+// There is a profile of its number.
+pub fn is_known(platform: Platform) -> bool
+    ensures { λ t. ⌜ t ≡ isKnown (profileOf (platform .profile)) ⌝ }
+{
+    platform.profile < 2
+}
+
 // The profile is known, and the page has an allowed length.
 pub fn of_program(page: &[u8], platform: Platform) -> Verdict
     ensures { λ v. ⌜ decisionOf v ≡ decision (programRules (programOf (now (page .entry)) platform)) ⌝ }
 {
-    let known = platform.profile < 2;
+    let known = is_known(platform);
     let fits = page::fits(page);
     if !known {
         return Verdict::Refused(Refusal::UnknownProfile);

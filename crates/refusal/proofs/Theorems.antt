@@ -7,7 +7,7 @@ use native.Mathlib.Omega.{arith}
 use lib.ListN.{length}
 use Rattle.refusal.specs.Refusals.{Decision, accepted, refused, Rule, rule, decision, isAccepted, whenAccepted, refusalValues}
 use Rattle.refusal.specs.declared.Refusal.{Refusal}
-use Rattle.refusal.specs.declared.Refusal.the-variants.{PageLength, RamLength, ExternalLength, UnfitPlace, FormLength, FormRange, NoSuchBundle, NotGrouped, RoomTooSmall, UnknownProfile, WindowBounds, SpBounds, SpAlignment, RamOffset, ExternalOffset, NoRecord}
+use Rattle.refusal.specs.declared.Refusal.the-variants.{PageLength, RamLength, ExternalLength, UnfitPlace, FormLength, FormRange, NoSuchBundle, NotGrouped, RoomTooSmall, ImageLength, NoSuchPage, IndexLength, UnknownProfile, WindowBounds, WrongIndex, SpBounds, SpAlignment, RamOffset, ExternalOffset, NoRecord}
 
 -- what is accepted has passed every line
 pub passes : (t : Bool) (n : ℕ) (values : List ℕ) (rest : Decision) → cond (not t) (refused n values) rest ≡ accepted
@@ -51,8 +51,12 @@ few-values (FormRange position) = omega arith
 few-values NoSuchBundle = omega arith
 few-values NotGrouped = omega arith
 few-values RoomTooSmall = omega arith
+few-values ImageLength = omega arith
+few-values NoSuchPage = omega arith
+few-values IndexLength = omega arith
 few-values UnknownProfile = omega arith
 few-values WindowBounds = omega arith
+few-values WrongIndex = omega arith
 few-values SpBounds = omega arith
 few-values SpAlignment = omega arith
 few-values RamOffset = omega arith

@@ -3,7 +3,7 @@ use Prim.Native.Nat.{ℕ}
 use mathlib.Core.Bool.{Bool, true, false, cond}
 use mathlib.Core.List.{List, [], _∷_}
 use Rattle.refusal.specs.declared.Refusal.{Refusal}
-use Rattle.refusal.specs.declared.Refusal.the-variants.{PageLength, RamLength, ExternalLength, UnfitPlace, FormLength, FormRange, NoSuchBundle, NotGrouped, RoomTooSmall, UnknownProfile, WindowBounds, SpBounds, SpAlignment, RamOffset, ExternalOffset, NoRecord}
+use Rattle.refusal.specs.declared.Refusal.the-variants.{PageLength, RamLength, ExternalLength, UnfitPlace, FormLength, FormRange, NoSuchBundle, NotGrouped, RoomTooSmall, ImageLength, NoSuchPage, IndexLength, UnknownProfile, WindowBounds, WrongIndex, SpBounds, SpAlignment, RamOffset, ExternalOffset, NoRecord}
 use Rattle.refusal.specs.declared.Carried.{Carried}
 use Rattle.refusal.specs.declared.Carried.the-variants.{Nothing, Position}
 use Rattle.refusal.specs.declared.Verdict.{Verdict}
@@ -45,8 +45,12 @@ refusalNumber (FormRange position) = 7
 refusalNumber NoSuchBundle = 8
 refusalNumber NotGrouped = 9
 refusalNumber RoomTooSmall = 10
+refusalNumber ImageLength = 12
+refusalNumber NoSuchPage = 13
+refusalNumber IndexLength = 14
 refusalNumber UnknownProfile = 18
 refusalNumber WindowBounds = 20
+refusalNumber WrongIndex = 21
 refusalNumber SpBounds = 41
 refusalNumber SpAlignment = 42
 refusalNumber RamOffset = 43
@@ -63,8 +67,12 @@ refusalValues (FormRange position) = position ∷ []
 refusalValues NoSuchBundle = []
 refusalValues NotGrouped = []
 refusalValues RoomTooSmall = []
+refusalValues ImageLength = []
+refusalValues NoSuchPage = []
+refusalValues IndexLength = []
 refusalValues UnknownProfile = []
 refusalValues WindowBounds = []
+refusalValues WrongIndex = []
 refusalValues SpBounds = []
 refusalValues SpAlignment = []
 refusalValues RamOffset = []

@@ -1,13 +1,14 @@
--- What the theorems ask of a machine.
+-- What the theorems ask of a machine, and of a kind of machine.
 use Prim.Native.Nat.{ℕ}
 use mathlib.Core.List.{List}
 use mathlib.Core.Path.{_≡_}
+use Rattle.refusal.specs.Refusals.{accepted}
 use Rattle.memory.specs.Faults.{faultNumber}
 use Rattle.state.specs.declared.Record.{Record}
 use Rattle.stop.specs.Stops.{Exit}
-use Rattle.plain.specs.PlainMachine.{Effect, goesOn, exits, faults, unlisted}
+use Rattle.plain.specs.PlainMachine.{Effect, goesOn, exits, faults, unlisted, Result}
 use Rattle.plain.proofs.Runs.{Leaves, run-keeps}
-use Rattle.series.specs.Machine.{Machine, Admits, called, run}
+use Rattle.series.specs.Machine.{Handed, Kind, calledBy, Machine, machineOf, Admits, called, run}
 
 -- an instruction goes on or exits with a fit record and RAM, an exit being by a service that stands there, or meets a known fault
 abbrev pub Keeps : (Fit : Record → List ℕ → Type 0) → (ServiceHere : Exit → Type 0) → (Known : ℕ → Type 0) → Effect → Type 0
@@ -39,6 +40,17 @@ pub record KeepsAdmitted (m : Machine) : Type 0 where
   pub starts : (r : Record) (ram : List ℕ) → Admits m r ram → m .Starts r
   -- a call meets its contract
   pub meets : (c : m .Call) → m .gave c ≡ called m (m .handed c)
+
+-- the same of a kind, with every setting
+pub record KeepsAll (kind : Kind) : Type 0 where
+  pub keeps : (setting : kind .Setting) (r : Record) (ram : List ℕ) → kind .decision setting r ram ≡ accepted
+      → Keeps (λ s after. kind .decision setting s after ≡ accepted) (kind .ServiceAt setting r) (kind .Known) (kind .instruction setting r ram)
+  pub starts : (setting : kind .Setting) (r : Record) (ram : List ℕ) → kind .decision setting r ram ≡ accepted → kind .Starts setting r
+
+-- a machine of such a kind is asked no more than that its calls meet their contract
+pub keeps-admitted : (kind : Kind) → KeepsAll kind → (Call : Type 0) (handed : Call → Handed (kind .Setting)) (gave : Call → Result)
+    → ((c : Call) → gave c ≡ calledBy kind (handed c)) → (setting : kind .Setting) → KeepsAdmitted (machineOf kind Call handed gave setting)
+keeps-admitted kind k Call handed gave meets setting = record { keeps = k .keeps setting; starts = k .starts setting; meets = meets }
 
 -- what a run leaves is not refused either
 pub admits-after : (m : Machine) → KeepsAdmitted m → (total : ℕ) (r : Record) (ram : List ℕ) → Admits m r ram

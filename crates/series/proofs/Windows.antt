@@ -1,4 +1,4 @@
--- Calls keep to their window, over any machine whose instructions do.
+-- Calls keep to their window, over any kind of machine whose instructions do.
 use Prim.Native.Nat.{ℕ}
 use native.Mathlib.Omega.{arith}
 use mathlib.Core.List.{List, [], _∷_, map}
@@ -15,23 +15,25 @@ use Rattle.plain.specs.EqualBut.{EqualBut}
 use Rattle.plain.proofs.Runs.{Leaves, run-keeps}
 use Rattle.plain.proofs.Alike.{EffectsAlike, RunsAlike, equal, outside, runs-alike}
 use Rattle.series.specs.HandedOn.{Standing, InSeries, own, other, leftBy, leftByAll, HandedOn}
-use Rattle.series.specs.Machine.{Handed, Machine, Refuses, called}
+use Rattle.series.specs.Machine.{Handed, Kind, calledBy, Machine, machineOf, Refuses}
 use Rattle.series.specs.Series.{State, handedState, gaveState, OwnSetting, Series}
 use Rattle.series.specs.Windows.{ramAlone, windowOn, EqualAll, ownWindow, EqualStates, InTurn, leftInTurn, budgetsOf, ownCalls, KeepsToWindow}
 use Rattle.series.proofs.Keeps.{KeepsAdmitted}
 use Rattle.series.proofs.Theorems.{stays, refused-back, other-stays}
 
--- ---- what is asked of a machine
+-- ---- what is asked of a kind of machine
 
-pub record WithinWindow (m : Machine) : Type 0 where
+pub record WithinWindow (kind : Kind) : Type 0 where
   -- in RAMs that are equal inside the window an instruction has the same effect
-  pub reads-inside : (setting : m .Setting) (r : Record) (a b : List ℕ) → EqualInside (m .window setting) a b
-      → EffectsAlike (m .window setting) (m .window setting) (EqualInside (m .window setting)) (m .instruction setting r a) (m .instruction setting r b)
+  pub reads-inside : (setting : kind .Setting) (r : Record) (a b : List ℕ) → EqualInside (kind .window setting) a b
+      → EffectsAlike (kind .window setting) (kind .window setting) (EqualInside (kind .window setting))
+      (kind .instruction setting r a) (kind .instruction setting r b)
   -- and it leaves the bytes outside
-  pub writes-inside : (setting : m .Setting) (r : Record) (ram : List ℕ)
-      → Leaves (λ s after. EqualOutside (m .window setting) ram after) (m .instruction setting r ram)
+  pub writes-inside : (setting : kind .Setting) (r : Record) (ram : List ℕ)
+      → Leaves (λ s after. EqualOutside (kind .window setting) ram after) (kind .instruction setting r ram)
   -- refusals don't look at RAM's bytes
-  pub refuses-by-length : (setting : m .Setting) (r : Record) (a b : List ℕ) → length a ≡ length b → m .decision setting r a ≡ m .decision setting r b
+  pub refuses-by-length : (setting : kind .Setting) (r : Record) (a b : List ℕ) → length a ≡ length b
+      → kind .decision setting r a ≡ kind .decision setting r b
 
 -- ---- RAM in a row of calls
 
@@ -50,7 +52,7 @@ module _ {Form Call : Type 0} (gave handed : Call → Standing Form) (OwnSetting
       subst (λ ram. EqualOutside w ram (leftByAll gave cs (leftBy gave (other seriesRecord seriesRam c) s) .ram)) still
       (rams-stay cs (leftBy gave (other seriesRecord seriesRam c) s) (h .1))
 
-module _ (m : Machine) (inside : WithinWindow m) where
+module _ (kind : Kind) (inside : WithinWindow kind) where
   -- ---- one call leaves the bytes outside its window
 
   leaves-outside : (w : Window) (first ram : List ℕ) (e : Effect) → EqualOutside w first ram
@@ -60,51 +62,55 @@ module _ (m : Machine) (inside : WithinWindow m) where
   leaves-outside w first ram (faults f) o l = tt
   leaves-outside w first ram unlisted o l = tt
 
-  called-outside : (h : Handed (m .Setting)) → EqualOutside (m .window (h .setting)) (h .ram) (called m h .ram)
-  called-outside h = go (m .decision (h .setting) (h .rec) (h .ram))
+  pub called-outside : (h : Handed (kind .Setting)) → EqualOutside (kind .window (h .setting)) (h .ram) (calledBy kind h .ram)
+  called-outside h = go (kind .decision (h .setting) (h .rec) (h .ram))
     where
       w : Window
-      w = m .window (h .setting)
+      w = kind .window (h .setting)
 
-      go : (d : Decision) → EqualOutside w (h .ram) (callBy d (m .instruction (h .setting)) (h .budget) (h .rec) (h .ram) .ram)
+      go : (d : Decision) → EqualOutside w (h .ram) (callBy d (kind .instruction (h .setting)) (h .budget) (h .rec) (h .ram) .ram)
       go accepted =
-          run-keeps (m .instruction (h .setting)) (λ s after. EqualOutside w (h .ram) after)
-          (λ s after o. leaves-outside w (h .ram) after (m .instruction (h .setting) s after) o (inside .writes-inside (h .setting) s after))
+          run-keeps (kind .instruction (h .setting)) (λ s after. EqualOutside w (h .ram) after)
+          (λ s after o. leaves-outside w (h .ram) after (kind .instruction (h .setting) s after) o (inside .writes-inside (h .setting) s after))
           (h .budget) 0 (h .rec) (h .ram) (equal-same _ (h .ram))
       go (refused n values) = equal-same _ (h .ram)
 
   -- ---- two calls
 
-  pub called-equal : (setting : m .Setting) (total : ℕ) (r : Record) (a b : List ℕ) → EqualInside (m .window setting) a b
-      → EqualBut (EqualInside (m .window setting)) (called m (record { setting = setting; budget = total; rec = r; ram = a }))
-      (called m (record { setting = setting; budget = total; rec = r; ram = b }))
-  called-equal setting total r a b e = rw (inside .refuses-by-length setting r a b (e .0)) (go (m .decision setting r b))
+  pub called-equal : (setting : kind .Setting) (total : ℕ) (r : Record) (a b : List ℕ) → EqualInside (kind .window setting) a b
+      → EqualBut (EqualInside (kind .window setting)) (calledBy kind (record { setting = setting; budget = total; rec = r; ram = a }))
+      (calledBy kind (record { setting = setting; budget = total; rec = r; ram = b }))
+  called-equal setting total r a b e = rw (inside .refuses-by-length setting r a b (e .0)) (go (kind .decision setting r b))
     where
       w : Window
-      w = m .window setting
+      w = kind .window setting
 
       run : List ℕ → Result
-      run ram = plain (m .instruction setting) total 0 r ram
+      run ram = plain (kind .instruction setting) total 0 r ram
 
       ran : RunsAlike w w (EqualInside w) (run a) (run b) → EqualBut (EqualInside w) (run a) (run b)
       ran (equal not-seven x) = x
       ran (outside at bytes i j seven x) = x j
 
-      go : (d : Decision) → EqualBut (EqualInside w) (callBy d (m .instruction setting) total r a) (callBy d (m .instruction setting) total r b)
+      go : (d : Decision) → EqualBut (EqualInside w) (callBy d (kind .instruction setting) total r a) (callBy d (kind .instruction setting) total r b)
       go accepted =
-          ran (runs-alike w w (EqualInside w) (m .instruction setting) (m .instruction setting) (inside .reads-inside setting) total 0 r a b e)
+          ran (runs-alike w w (EqualInside w) (kind .instruction setting) (kind .instruction setting) (inside .reads-inside setting) total 0 r a b e)
       go (refused n values) = record { stop = refl; steps = refl; rec = refl; ram = e }
 
-module _ (m : Machine) (inside : WithinWindow m) (meets : (c : m .Call) → m .gave c ≡ called m (m .handed c)) where
-  pub call-outside : (c : m .Call) → EqualOutside (windowOn m c) (m .handed c .ram) (m .gave c .ram)
-  call-outside c = rw (meets c) (called-outside m inside (m .handed c))
+module _ (kind : Kind) (inside : WithinWindow kind) (Call : Type 0) (handed : Call → Handed (kind .Setting)) (gave : Call → Result)
+    (setting : kind .Setting) (k : KeepsAdmitted (machineOf kind Call handed gave setting)) where
+  abbrev m : Machine
+  m = machineOf kind Call handed gave setting
+
+  call-outside : (c : m .Call) → EqualOutside (windowOn m c) (m .handed c .ram) (m .gave c .ram)
+  call-outside c = rw (k .meets c) (called-outside kind inside (m .handed c))
 
   calls-equal : (c d : m .Call) → m .handed c .setting ≡ m .handed d .setting → m .handed c .budget ≡ m .handed d .budget
       → m .handed c .rec ≡ m .handed d .rec → EqualInside (windowOn m c) (m .handed c .ram) (m .handed d .ram)
       → EqualBut (EqualInside (windowOn m c)) (m .gave c) (m .gave d)
   calls-equal c d setting budget rec ram =
-      rw (meets c, meets d, ← setting, ← budget, ← rec)
-      (called-equal m inside (m .handed c .setting) (m .handed c .budget) (m .handed c .rec) (m .handed c .ram) (m .handed d .ram) ram)
+      rw (k .meets c, k .meets d, ← setting, ← budget, ← rec)
+      (called-equal kind inside (m .handed c .setting) (m .handed c .budget) (m .handed c .rec) (m .handed c .ram) (m .handed d .ram) ram)
 
   -- ---- calls in turn, and series
 
@@ -124,8 +130,8 @@ module _ (m : Machine) (inside : WithinWindow m) (meets : (c : m .Call) → m .g
       own-window : windowOn m c ≡ ownWindow m
       own-window = ap (m .window) (g .0)
 
-      handed : EqualInside (ownWindow m) (m .handed c .ram) (m .handed d .ram)
-      handed =
+      rams : EqualInside (ownWindow m) (m .handed c .ram) (m .handed d .ram)
+      rams =
           equal-on _ (m .handed c .ram) (s .ram) (m .handed d .ram) (g .1 .1)
           (equal-on _ (s .ram) (t .ram) (m .handed d .ram) (e .1) (equal-back _ (m .handed d .ram) (t .ram) (h .1 .1)))
 
@@ -133,17 +139,16 @@ module _ (m : Machine) (inside : WithinWindow m) (meets : (c : m .Call) → m .g
       one =
           subst (λ w. EqualBut (EqualInside w) (m .gave c) (m .gave d)) own-window
           (calls-equal c d (g .0 ∙ sym (h .0)) (first-equal _ _ (budgetsOf m cs) (budgetsOf m ds) b .0) (g .1 .0 ∙ e .0 ∙ sym (h .1 .0))
-          (subst (λ w. EqualInside w (m .handed c .ram) (m .handed d .ram)) (sym own-window) handed))
+          (subst (λ w. EqualInside w (m .handed c .ram) (m .handed d .ram)) (sym own-window) rams))
 
-module _ (m : Machine) (inside : WithinWindow m) (k : KeepsAdmitted m) where
   -- the own calls of a series are calls in turn, and leave what it leaves
   own-turns : (cs : List (InSeries (m .Call))) (s : State) → Series m cs s
       → InTurn m (ownCalls m cs) s × (leftByAll (gaveState m) cs s ≡ leftInTurn m (ownCalls m cs) s)
   own-turns [] s h = (tt, refl)
   own-turns (own c ∷ cs) s h =
       let rest = own-turns cs (gaveState m c) (h .1) in
-      let handed : EqualStates m (handedState m c) s = rw (h .0 .1) (refl, equal-same _ (s .ram)) in
-      ((h .0 .0, handed, rest .0), rest .1)
+      let from = subst (λ (x : State). EqualStates m x s) (sym (h .0 .1)) (refl, equal-same _ (s .ram)) in
+      ((h .0 .0, from, rest .0), rest .1)
   own-turns (other seriesRecord seriesRam c ∷ cs) s h =
       let still = other-stays m k seriesRecord seriesRam c s (h .0) in
       let rest = own-turns cs s (subst (Series m cs) still (h .1)) in
@@ -156,7 +161,7 @@ module _ (m : Machine) (inside : WithinWindow m) (k : KeepsAdmitted m) where
   series-equal cs ds s t g h e b =
       let one = own-turns cs s g in
       let two = own-turns ds t h in
-      rw (one .1, two .1) (turns-equal m inside (k .meets) (ownCalls m cs) (ownCalls m ds) s t (one .0) (two .0) e b)
+      rw (one .1, two .1) (turns-equal (ownCalls m cs) (ownCalls m ds) s t (one .0) (two .0) e b)
 
   -- a refused call gives back the RAM that it was handed
   refused-ram : (c : m .Call) → Refuses m (m .handed c) → m .gave c .ram ≡ m .handed c .ram
@@ -164,7 +169,7 @@ module _ (m : Machine) (inside : WithinWindow m) (k : KeepsAdmitted m) where
 
   -- a call with a window leaves the bytes outside it
   window-stays : (w : Window) (c : m .Call) → windowOn m c ≡ w → EqualOutside w (m .handed c .ram) (m .gave c .ram)
-  window-stays w c e = subst (λ x. EqualOutside x (m .handed c .ram) (m .gave c .ram)) e (call-outside m inside (k .meets) c)
+  window-stays w c e = subst (λ x. EqualOutside x (m .handed c .ram) (m .gave c .ram)) e (call-outside c)
 
   pub keeps-to-window : KeepsToWindow m
   keeps-to-window = record {
@@ -174,7 +179,7 @@ module _ (m : Machine) (inside : WithinWindow m) (k : KeepsAdmitted m) where
     series-stays = λ cs s h.
         rams-stay (gaveState m) (handedState m) (OwnSetting m) (λ c. Refuses m (m .handed c)) (ownWindow m)
         (λ c e. window-stays (ownWindow m) c (ap (m .window) e)) refused-ram cs s h;
-    equal-calls = calls-equal m inside (k .meets);
-    equal-in-turn = turns-equal m inside (k .meets);
+    equal-calls = calls-equal;
+    equal-in-turn = turns-equal;
     equal-series = series-equal;
   }

@@ -17,24 +17,56 @@ pub record Handed (Setting : Type 0) : Type 0 where
   pub rec : Record
   pub ram : List ℕ
 
+-- a kind of machine: all of one but its calls, and the setting that a series' own calls get
+pub record Kind : Type 1 where
+  pub Setting : Type 0
+  pub instruction : Setting → Record → List ℕ → Effect
+  pub decision : Setting → Record → List ℕ → Decision
+  -- the part of RAM that a call may read and write
+  pub window : Setting → Window
+  -- a listed instruction starts at the record's place
+  pub Starts : Setting → Record → Type 0
+  -- a service stands there that exits so
+  pub ServiceAt : Setting → Record → Exit → Type 0
+  -- the papers have a fault of this number
+  pub Known : ℕ → Type 0
+
+-- the plain machine's run, or the refusal
+abbrev pub calledBy : (kind : Kind) → Handed (kind .Setting) → Result
+calledBy kind h =
+    callBy (kind .decision (h .setting) (h .rec) (h .ram)) (kind .instruction (h .setting)) (h .budget) (h .rec) (h .ram)
+
+-- what a kind has, `Starts` and `ServiceAt` with the one setting
 pub record Machine : Type 1 where
   pub Setting : Type 0
   -- what a series' own calls and all slices get
   pub setting : Setting
   pub instruction : Setting → Record → List ℕ → Effect
   pub decision : Setting → Record → List ℕ → Decision
-  -- the part of RAM that a call may read and write
   pub window : Setting → Window
-  -- a listed instruction starts at the record's place
   pub Starts : Record → Type 0
-  -- a service stands there that exits so
   pub ServiceAt : Record → Exit → Type 0
-  -- the papers have a fault of this number
   pub Known : ℕ → Type 0
   -- the calls, what each was handed and what it gave
   pub Call : Type 0
   pub handed : Call → Handed Setting
   pub gave : Call → Result
+
+-- a machine of a kind, with any calls
+abbrev pub machineOf : (kind : Kind) (Call : Type 0) → (Call → Handed (kind .Setting)) → (Call → Result) → kind .Setting → Machine
+machineOf kind Call handed gave setting = record {
+  Setting = kind .Setting;
+  setting = setting;
+  instruction = kind .instruction;
+  decision = kind .decision;
+  window = kind .window;
+  Starts = kind .Starts setting;
+  ServiceAt = kind .ServiceAt setting;
+  Known = kind .Known;
+  Call = Call;
+  handed = handed;
+  gave = gave;
+}
 
 module _ (m : Machine) where
   abbrev pub decisionOn : Handed (m .Setting) → Decision
@@ -55,7 +87,7 @@ module _ (m : Machine) where
   abbrev pub refusedBy : ℕ → List ℕ → Handed (m .Setting) → Result
   refusedBy n values h = record { stop = stops.refused n values; steps = 0; rec = h .rec; ram = h .ram }
 
-  -- the plain machine's run, or the refusal
+  -- as a kind's call
   abbrev pub called : Handed (m .Setting) → Result
   called h = callBy (decisionOn h) (m .instruction (h .setting)) (h .budget) (h .rec) (h .ram)
 

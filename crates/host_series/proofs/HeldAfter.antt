@@ -8,7 +8,7 @@ use lib.Dec.{eqb, ltb, leb}
 use lib.ListN.{length, getD, take}
 use borrow.Author.Tests.{ltb-true, leb-true}
 use Rattle.laws.proofs.Tests.{both}
-use Rattle.refusal.specs.Refusals.{Decision, accepted, refused, decision}
+use Rattle.refusal.specs.Refusals.{accepted, decision}
 use Rattle.page.specs.Page.{bundlesIn}
 use Rattle.page.proofs.Theorems.{fitting}
 use Rattle.platform.specs.Programs.{Program, programRules, Setting}
@@ -22,21 +22,20 @@ use Rattle.state.specs.Validation.{externalFits}
 use Rattle.state.specs.declared.Base.{Base}
 use Rattle.state.specs.declared.Base.the-variants.{Nothing, Ram, External}
 use Rattle.state.specs.declared.Record.{Record}
-use Rattle.place.specs.Places.{fitPlace}
-use Rattle.plain.specs.Calls.{callBy}
+use Rattle.place.specs.Places.{fitBelow, fitPlace}
+use Rattle.plain.specs.PlainMachine.{plain}
 use Rattle.plain.proofs.Runs.{run-keeps}
 use Rattle.series.proofs.Keeps.{admits-after}
 use Rattle.admission.specs.RunRefusals.{runDecision}
 use Rattle.instruction.specs.Fitness.{Fit}
 use Rattle.instruction.specs.Instructions.{instructionOf}
 use Rattle.instruction.proofs.WordsKept.{Words, words-kept}
-use Rattle.machine.specs.Runs.{runOf}
 use Rattle.claims.specs.Demand3.{machine}
 use Rattle.claims.proofs.Admitted.{admitted-allowed}
 use Rattle.claims.proofs.Machines.{code-keeps}
 use Rattle.layout.specs.StoredForm.{storedForm, decode, baseOf, recordIn, Held}
 use Rattle.layout.proofs.Fields.{decode-below}
-use Rattle.host_claims.specs.HostCalls.{Bytes}
+use Rattle.host_series.specs.Host.{Bytes}
 
 -- ---- a record in bytes
 
@@ -83,14 +82,15 @@ unfolding externalFits
 external-below external h = omega (arith, leb-true external 16777216 (both (leb external 16777216) (eqb (external % 256) 0) h .0))
 
 place-below : (program : Program) (place : ℕ) → decision (programRules program) ≡ accepted → fitPlace program place ≡ true → place < 2 ^ 16
-unfolding fitPlace
+unfolding fitBelow
 place-below program place p h =
     let counted : countProgram program .count ≡ countOf program = rw p in
     let bundles = fitting (program .page) (program-accepted program p .1) in
     let below = ltb-true (place / 2) (countProgram program .count) (both (ltb (place / 2) (countProgram program .count)) _ h .0) in
     omega (arith, below, counted, definition (successorsOf program) (bundlesIn (program .page)) .inside, bundles)
 
-fit-held : (setting : Setting) (r : Record) (ram : List ℕ) → decision (programRules (setting .program)) ≡ accepted → externalFits (length (setting .external)) ≡ true
+fit-held : (setting : Setting) (r : Record) (ram : List ℕ) → decision (programRules (setting .program)) ≡ accepted
+    → externalFits (length (setting .external)) ≡ true
     → Fit setting r ram → Words r ram → Held r
 unfolding fitRecord
 fit-held setting r ram p e f w =
@@ -105,14 +105,11 @@ fit-held setting r ram p e f w =
 
 -- ---- a run
 
-module _ (setting : Setting) (p : Bytes (setting .program .page)) (e : Bytes (setting .external)) (total : ℕ) (r : Record) (ram : List ℕ) (h : Held r) (m : Bytes ram) where
-  pub held-after : Held (runOf setting total r ram .rec)
-  held-after = go (runDecision setting r ram) refl
-    where
-      go : (v : Decision) → runDecision setting r ram ≡ v → Held (callBy v (instructionOf setting) total r ram .rec)
-      go accepted q =
-          let after = admitted-allowed setting _ _ (admits-after (machine setting) (code-keeps setting) total r ram q) in
-          fit-held setting _ _ (after .programAllowed) (after .dataAllowed) (after .fits)
-          (run-keeps (instructionOf setting) Words (λ s after w. words-kept setting p e s after w)
-          total 0 r ram (record { eight = h .eight; words = h .words; bytes = m }))
-      go (refused n values) q = h
+-- one that isn't refused, of a page by itself
+pub held-after : (setting : Setting) → Bytes (setting .program .page) → Bytes (setting .external) → (total : ℕ) (r : Record) (ram : List ℕ)
+    → runDecision setting r ram ≡ accepted → Held r → Bytes ram → Held (plain (instructionOf setting) total 0 r ram .rec)
+held-after setting p e total r ram q h m =
+    let after = admitted-allowed setting _ _ (admits-after (machine setting) (code-keeps setting) total r ram q) in
+    fit-held setting _ _ (after .programAllowed) (after .dataAllowed) (after .fits)
+    (run-keeps (instructionOf setting) Words (λ s after w. words-kept setting p e s after w)
+    total 0 r ram (record { eight = h .eight; words = h .words; bytes = m }))

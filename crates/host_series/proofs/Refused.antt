@@ -1,19 +1,17 @@
--- No refusal of a run carries a value, so that a stop's numbers say all of it.
+-- A stop whose refusal, if it is one, carries no value: its numbers say all of it.
 use Prim.Native.Nat.{ℕ, zero, suc, _+_}
 use mathlib.Core.Bool.{true, false}
 use mathlib.Core.List.{List, [], _∷_}
-use mathlib.Core.Path.{_≡_, refl, sym, ap, _∙_}
+use mathlib.Core.Path.{_≡_, refl, sym, ap}
 use Rattle.refusal.specs.Refusals.{Decision, accepted, refused, Rule, rule, decision}
 use Rattle.state.specs.declared.Record.{Record}
-use Rattle.platform.specs.Programs.{Setting}
-use Rattle.stop.specs.Stops.{Reason, budget, service, fault, unlisted}
+use Rattle.stop.specs.Stops.{direct, byLiteral, Reason, budget, service, fault, unlisted}
 use Rattle.stop.specs.Stops as stops
 use Rattle.plain.specs.PlainMachine.{Effect, goesOn, exits, faults, onward, plain}
 use Rattle.plain.specs.PlainMachine as effect
 use Rattle.plain.specs.Calls.{callBy}
-use Rattle.admission.specs.RunRefusals.{runRules, runDecision}
-use Rattle.instruction.specs.Instructions.{instructionOf}
-use Rattle.machine.specs.Runs.{runOf}
+use Rattle.crossing.specs.Numbers.{stopNumbers}
+use Rattle.host_series.specs.Host.{stopIn}
 
 abbrev pub NoValues : Reason → Type 0
 NoValues budget = Unit {0}
@@ -36,25 +34,35 @@ plain-no-values instruction (suc left) steps r ram = go (plain-no-values instruc
     go rest (faults f) = tt
     go rest effect.unlisted = tt
 
--- the lines of a table carry none
-abbrev Bare : List Rule → Type 0
-Bare [] = Unit {0}
-Bare (rule test n values ∷ rules) = (values ≡ []) × Bare rules
+-- ---- a call
 
-abbrev valuesIn : Decision → List ℕ
+abbrev pub valuesIn : Decision → List ℕ
 valuesIn accepted = []
 valuesIn (refused n values) = values
 
-bare-refusal : (rules : List Rule) → Bare rules → valuesIn (decision rules) ≡ []
+-- a call's stop carries none where its decision carries none
+pub call-no-values : (d : Decision) → valuesIn d ≡ [] → (instruction : Record → List ℕ → Effect) (total : ℕ) (r : Record) (ram : List ℕ)
+    → NoValues (callBy d instruction total r ram .stop)
+call-no-values accepted e instruction total r ram = plain-no-values instruction total 0 r ram
+call-no-values (refused n values) e instruction total r ram = e
+
+-- the lines of a table carry none
+abbrev pub Bare : List Rule → Type 0
+Bare [] = Unit {0}
+Bare (rule test n values ∷ rules) = (values ≡ []) × Bare rules
+
+pub bare-refusal : (rules : List Rule) → Bare rules → valuesIn (decision rules) ≡ []
 bare-refusal [] h = refl
 bare-refusal (rule true n values ∷ rules) h = h .0
 bare-refusal (rule false n values ∷ rules) h = bare-refusal rules (h .1)
 
-pub no-values : (setting : Setting) (total : ℕ) (r : Record) (ram : List ℕ) → NoValues (runOf setting total r ram .stop)
-unfolding runDecision
-no-values setting total r ram = go (runDecision setting r ram) refl
-  where
-    go : (d : Decision) → runDecision setting r ram ≡ d → NoValues (callBy d (instructionOf setting) total r ram .stop)
-    go accepted e = plain-no-values (instructionOf setting) total 0 r ram
-    go (refused n values) e =
-        sym (ap valuesIn e) ∙ bare-refusal (runRules setting r ram) (refl, (refl, (refl, (refl, (refl, (refl, (refl, (refl, (refl, (refl, tt))))))))))
+-- ---- a stop
+
+-- it is read back from its numbers
+pub stop-back : (x : Reason) → NoValues x → stopIn (stopNumbers x .kind) (stopNumbers x .value) (stopNumbers x .literal) ≡ x
+stop-back budget h = refl
+stop-back (service (direct n)) h = refl
+stop-back (service (byLiteral n literal)) h = refl
+stop-back (fault n) h = refl
+stop-back unlisted h = refl
+stop-back (stops.refused n values) h = ap (stops.refused n) (sym h)

@@ -1,0 +1,5 @@
+pub mod Host
+pub mod HostExits
+pub mod HostSeries
+pub mod HostStopAndGoOn
+pub mod HostWindows

@@ -1,0 +1,31 @@
+use mathlib.Core.List.{_∷_}
+use mathlib.Core.Path.{sym, _∙_}
+use borrow.Author.Tests.{not-true, not-false}
+use borrow.Author.Needs.{needs}
+use Rattle.refusal.proofs.Theorems.{after}
+use Rattle.image.specs.Images.{imageOf, imageRules}
+use Rattle.image.specs.Index.{indexRule}
+use Rattle.admission.specs.RunRefusals.{lentRules}
+use Rattle.image_runs.proofs.of_areas.Statement.{statement}
+use Rattle.image_runs.proofs.of_areas.Tie as tie
+
+returns : tie.Need-returns
+returns c =
+    let s = c .before .before .before .before .before .before .before .before .args in
+    let image = imageOf (s .image .now) (s .index .now) (s .platform) in
+    rw (after (imageRules image (s .number)) (indexRule image ∷ lentRules (s .external .now) (s .window) (s .ram .now)) _ (c .before .before .before .of-page .ensures), c .before .why .given .1)
+
+returns-2 : tie.Need-returns-2
+returns-2 c =
+    let s = c .before .before .before .before .before .before .before .before .before .args in
+    let image = imageOf (s .image .now) (s .index .now) (s .platform) in
+    rw (after (imageRules image (s .number)) (indexRule image ∷ lentRules (s .external .now) (s .window) (s .ram .now)) _ (c .before .before .before .before .of-page .ensures), c .before .before .enum-told .given .1, sym (c .before .holds-counts .ensures) ∙ not-true _ (c .if1 .taken))
+
+returns-3 : tie.Need-returns-3
+returns-3 c =
+    let s = c .before .before .before .before .before .before .before .before .before .before .args in
+    let image = imageOf (s .image .now) (s .index .now) (s .platform) in
+    rw (after (imageRules image (s .number)) (indexRule image ∷ lentRules (s .external .now) (s .window) (s .ram .now)) _ (c .before .before .before .before .before .of-page .ensures), c .before .before .before .enum-told .given .1, sym (c .before .before .holds-counts .ensures) ∙ not-false _ (c .before .if1 .left)) (c .of-lent .ensures)
+
+pub of-areas-spec : {M : Type 1} → statement M
+of-areas-spec = tie.close (tie.spec (λ c κs. tt) (λ c. search needs) returns (λ c. search needs) (λ c κs. tt) returns-2 (λ c κs. tt) returns-3)
