@@ -210,6 +210,26 @@ static void over_a_link(mb_record *record)
     require(refused.number, refused.position);
 }
 
+/* Filters of many pages are kept in an image, with the count of each page beside it. The filter takes the place of page 1,
+ * whose byte alone changes, and runs there as it does alone: without a pair, to its abort. Its page is filled up with zeros. */
+static void in_an_image(host *h)
+{
+    static uint8_t pages[2 * MB_IMAGE_PAGE_BYTES], counts[2];
+    mb_image image = mb_image_of(pages, sizeof pages, counts, sizeof counts);
+    mb_image_setting setting;
+    mb_stopped stopped = mb_nothing_run();
+    mb_exit_parts asked;
+    image.never_return = h->setting.program.never_return;
+    require(mb_image_build(&image), 0);
+    require(mb_image_replace(&image, 1, h->setting.program.page, MB_IMAGE_PAGE_BYTES), 0);
+    printf("image: counts %u %u\n", counts[0], counts[1]);
+    setting = mb_image_setting_of(image, h->setting.external, h->setting.external_length);
+    h->record = mb_fresh();
+    require(mb_image_run(&setting, 1, h->ram, sizeof h->ram, &h->record, SLICE, &stopped), stopped.position);
+    asked = mb_exit_of(&stopped);
+    printf("page 1: %s %u after %u steps\n", mb_exit_words(asked.kind), asked.number, stopped.steps);
+}
+
 int main(int count, char **words)
 {
     static uint8_t page[MB_PAGE_MOST + 1], external[MB_EXTERNAL_PAGE_BYTES];
@@ -239,6 +259,7 @@ int main(int count, char **words)
     for (uint32_t i = 0; i < h.kept; i++)
         printf(" %+.1f", hpa_of(word_at(h.ram + 4 * i)));
     printf("\n");
+    in_an_image(&h);
     if (fflush(stdout) != 0)
         give_up("cannot write", "");
     return 0;

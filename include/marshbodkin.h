@@ -6,7 +6,8 @@
  * What a call that can be refused answers: 0 (accepted) or the number of a
  * refusal, one of "Answers" below. The rest it writes into what it is lent for
  * it. A refused call writes an empty result there (count 0, no base, length 0, a
- * stop of kind MB_STOP_REFUSED), and leaves record, RAM and room as they were.
+ * stop of kind MB_STOP_REFUSED), and leaves record, RAM, room, image and index as
+ * they were.
  *
  * What the caller owes, in every call:
  * - an area of bytes is as long as its length says; it may be null if that is 0;
@@ -17,7 +18,8 @@
  *
  * What is guaranteed of the archive:
  * - it is reentrant: nothing global or static is ever written, so threads may
- *   call at once, and share what is only read (page, external data);
+ *   call at once, and share what is only read (page, external data, in a run image
+ *   and index);
  * - it uses no heap, and at most MB_STACK_BYTES of stack in a call (measured);
  * - it calls nothing outside itself, not even the C library;
  * - it is for x86-64 with the System V calling convention.
@@ -39,12 +41,13 @@
  * it against mb_version() before any other call: the archive of another version
  * takes other arguments, and the linker doesn't see it.
  *
- * A host of 0.6 is compiled anew: mb_setting has two fields more, the window's. Its
- * initialiser sets them to all of RAM, so the host's text stays; but one that calls
- * mb_raw_run or mb_raw_step itself gives two numbers more. New are refusal 20 and
- * fault 7, which are met only where the host sets the window. */
+ * A host of 0.7 is compiled anew, and its text stays: none of its calls changed, none of
+ * their structs and none of their answers. New are images: mb_image, mb_image_setting
+ * and four calls, mb_image_build, mb_image_replace, mb_image_run and mb_image_step. These
+ * alone answer with 12, 13, 14 and 21; and from mb_image_replace 1 says that the page
+ * isn't MB_IMAGE_PAGE_BYTES. MB_STACK_BYTES was 1024: a run takes more stack. */
 #define MB_VERSION_MAJOR 0
-#define MB_VERSION_MINOR 7
+#define MB_VERSION_MINOR 8
 #define MB_VERSION_PATCH 0
 #define MB_VERSION (65536u * MB_VERSION_MAJOR + 256u * MB_VERSION_MINOR + MB_VERSION_PATCH)
 
@@ -54,7 +57,7 @@ extern "C" {
 
 /* ---- Numbers */
 
-/* Sizes in bytes. */
+/* Sizes in bytes, but for the pages of an image. */
 enum {
     MB_RECORD_BYTES = 44,        /* a stored record */
     MB_SHORT_LEAST = 12,         /* a stored record in the short form: from this .. */
@@ -62,9 +65,11 @@ enum {
     MB_RAM_BYTES = 32768,
     MB_BUNDLE_BYTES = 4,
     MB_PAGE_MOST = 256,          /* and whole bundles */
+    MB_IMAGE_PAGE_BYTES = 256,   /* each page of an image */
+    MB_IMAGE_PAGES_MOST = 4096,  /* pages of an image, and at least one */
     MB_EXTERNAL_PAGE_BYTES = 256,
     MB_EXTERNAL_MOST = 16777216, /* and whole external pages */
-    MB_STACK_BYTES = 1024        /* the most that a call of the archive takes */
+    MB_STACK_BYTES = 1536        /* the most that a call of the archive takes */
 };
 
 /* Where RAM and external data begin, as addresses. */
@@ -74,7 +79,7 @@ enum {
 /* Answers: 0, or a refusal's number. Each call below names those that it tests, in their order. */
 enum {
     MB_ACCEPTED = 0,
-    MB_REFUSED_PAGE_LENGTH = 1,
+    MB_REFUSED_PAGE_LENGTH = 1,        /* in mb_image_replace: not MB_IMAGE_PAGE_BYTES */
     MB_REFUSED_RAM_LENGTH = 2,
     MB_REFUSED_EXTERNAL_LENGTH = 3,
     MB_REFUSED_UNFIT_PLACE = 5,
@@ -83,15 +88,19 @@ enum {
     MB_REFUSED_NO_SUCH_BUNDLE = 8,
     MB_REFUSED_NOT_GROUPED = 9,        /* of a short form */
     MB_REFUSED_ROOM_TOO_SMALL = 10,    /* for what is to be written */
+    MB_REFUSED_IMAGE_LENGTH = 12,      /* not 1 to 4096 pages of 256 bytes */
+    MB_REFUSED_NO_SUCH_PAGE = 13,
+    MB_REFUSED_INDEX_LENGTH = 14,      /* not one byte a page */
     MB_REFUSED_UNKNOWN_PROFILE = 18,
     MB_REFUSED_WINDOW_BOUNDS = 20,     /* starts above its end or ends above 32768 */
+    MB_REFUSED_WRONG_INDEX = 21,       /* a byte of it isn't its page's count */
     MB_REFUSED_SP_BOUNDS = 41,         /* below 0x10000 or above 0x18000 */
     MB_REFUSED_SP_ALIGNMENT = 42,      /* no multiple of 4 */
     MB_REFUSED_RAM_OFFSET = 43,        /* 2^20 or more */
     MB_REFUSED_EXTERNAL_OFFSET = 44,   /* not below the external data's length */
     /* The library's own, of a step and a run: a base kind above 2 (at position
      * MB_AT_BASE_KIND), or an offset with MB_BASE_NONE (at MB_AT_BASE_OFFSET). It
-     * stands after 18, 1, 2, 3 and 20, before 41. */
+     * stands after 20, before 41. */
     MB_REFUSED_NO_RECORD = 255
 };
 
@@ -162,9 +171,9 @@ enum {
  *
  * The archive's functions as they are proved, over bytes and numbers, with a
  * record as the 44 bytes of docs/MACHINE.md's stored form, never_return and
- * profile as mb_program has them, and the window as mb_setting has it. No pointer
- * may be null, not even where the length is 0. A host uses the calls further below,
- * which are over these. */
+ * profile as mb_program and mb_image have them, and the window as mb_setting has it.
+ * No pointer may be null, not even where the length is 0. A host uses the calls
+ * further below, which are over these. */
 
 uint32_t mb_raw_version(void);
 
@@ -218,6 +227,36 @@ uint32_t mb_raw_step(const uint8_t *page, size_t page_length, uint64_t never_ret
                      uint32_t *kind, uint32_t *value, uint32_t *literal,
                      uint32_t *position, uint32_t *steps);
 
+uint32_t mb_raw_image_build(const uint8_t *image, size_t image_length,
+                            uint8_t *index, size_t index_length,
+                            uint64_t never_return, uint32_t profile);
+
+uint32_t mb_raw_image_replace(uint8_t *image, size_t image_length,
+                              uint8_t *index, size_t index_length,
+                              uint64_t never_return, uint32_t profile, uint32_t number,
+                              const uint8_t *page, size_t page_length);
+
+/* This and the next take the record, and write the five numbers, as mb_raw_run. */
+uint32_t mb_raw_image_run(const uint8_t *image, size_t image_length,
+                          const uint8_t *index, size_t index_length,
+                          uint64_t never_return, uint32_t profile, uint32_t number,
+                          uint8_t *ram, size_t ram_length,
+                          const uint8_t *external, size_t external_length,
+                          uint32_t window_start, uint32_t window_end,
+                          uint8_t *record, size_t record_length, uint32_t budget,
+                          uint32_t *kind, uint32_t *value, uint32_t *literal,
+                          uint32_t *position, uint32_t *steps);
+
+uint32_t mb_raw_image_step(const uint8_t *image, size_t image_length,
+                           const uint8_t *index, size_t index_length,
+                           uint64_t never_return, uint32_t profile, uint32_t number,
+                           uint8_t *ram, size_t ram_length,
+                           const uint8_t *external, size_t external_length,
+                           uint32_t window_start, uint32_t window_end,
+                           uint8_t *record, size_t record_length,
+                           uint32_t *kind, uint32_t *value, uint32_t *literal,
+                           uint32_t *position, uint32_t *steps);
+
 void mb_raw_exit(uint32_t low, uint32_t literal,
                  uint32_t *kind, uint32_t *number, uint32_t *immediate,
                  uint32_t *address, uint32_t *words);
@@ -257,6 +296,29 @@ typedef struct {
      * So filters whose windows don't overlap may share one RAM, one after the other. */
     uint32_t window_start, window_end;
 } mb_setting;
+
+/* Filters of many pages, and beside them an index of one byte a page, its count. By
+ * mb_image_of, after which the host may set never_return and profile, as in an
+ * mb_program: before mb_image_build, since the index is right only under the set and
+ * the profile that it was built with, and before mb_image_setting_of, which copies the
+ * struct, though not the bytes. */
+typedef struct {
+    uint8_t *image; /* 1 to MB_IMAGE_PAGES_MOST pages of MB_IMAGE_PAGE_BYTES, one after the other */
+    size_t image_length; /* in bytes */
+    uint8_t *index;
+    size_t index_length; /* the number of pages */
+    uint64_t never_return;
+    uint32_t profile;
+} mb_image;
+
+/* What a filter in a page of an image runs on, RAM aside. By mb_image_setting_of, after
+ * which the host may set the window, as in an mb_setting. */
+typedef struct {
+    mb_image image;
+    const uint8_t *external;
+    size_t external_length;
+    uint32_t window_start, window_end;
+} mb_image_setting;
 
 /* The base of a record, and what validation gives. */
 typedef struct {
@@ -384,6 +446,29 @@ static inline mb_setting mb_setting_of(mb_program program, const uint8_t *extern
 {
     mb_setting setting;
     setting.program = program;
+    setting.external = external;
+    setting.external_length = external_length;
+    setting.window_start = 0;
+    setting.window_end = MB_RAM_BYTES;
+    return setting;
+}
+
+static inline mb_image mb_image_of(uint8_t *image, size_t image_length, uint8_t *index, size_t index_length)
+{
+    mb_image of;
+    of.image = image;
+    of.image_length = image_length;
+    of.index = index;
+    of.index_length = index_length;
+    of.never_return = 0;
+    of.profile = MB_PROFILE_FULL;
+    return of;
+}
+
+static inline mb_image_setting mb_image_setting_of(mb_image image, const uint8_t *external, size_t external_length)
+{
+    mb_image_setting setting;
+    setting.image = image;
     setting.external = external;
     setting.external_length = external_length;
     setting.window_start = 0;
@@ -541,6 +626,66 @@ static inline uint32_t mb_step(const mb_setting *setting, uint8_t *ram, size_t r
     return mb_run(setting, ram, ram_length, record, 1, stopped);
 }
 
+/* ---- Calls on an image */
+
+/* Fills the index: each byte with the count of its page. The image is only read. Refused
+ * (18, 12, 14): the index stays. */
+static inline uint32_t mb_image_build(const mb_image *image)
+{
+    uint8_t own[2] = {0, 0};
+    return mb_raw_image_build(mb_internal_read(image->image, image->image_length, &own[0]), image->image_length,
+                              mb_internal_written(image->index, image->index_length, &own[1]), image->index_length,
+                              image->never_return, image->profile);
+}
+
+/* Puts a page of MB_IMAGE_PAGE_BYTES bytes in the place of the page with that number,
+ * from 0, and its count into the byte of that page; nothing else changes. So an index
+ * that is right stays right, without being built anew; the other bytes of one that isn't
+ * stay wrong. The page given may not lie in the image. Refused (18, 12, 13, 14, and 1
+ * where the page isn't MB_IMAGE_PAGE_BYTES): image and index stay. */
+static inline uint32_t mb_image_replace(const mb_image *image, uint32_t number, const uint8_t *page, size_t page_length)
+{
+    uint8_t own[3] = {0, 0, 0};
+    return mb_raw_image_replace(mb_internal_written(image->image, image->image_length, &own[0]), image->image_length,
+                                mb_internal_written(image->index, image->index_length, &own[1]), image->index_length,
+                                image->never_return, image->profile, number,
+                                mb_internal_read(page, page_length, &own[2]), page_length);
+}
+
+/* Runs a record in the page with that number, from 0: as mb_run does in that page alone,
+ * literals, branches and exits included. Refused (18, 12, 13, 14, 21, 2, 3, 20, 255, 41,
+ * 42, 43, 44, 5): 0 steps. 21 says that some byte of the index isn't its page's count
+ * under never_return and profile, be it of this page or another. So every run counts
+ * every page of the image: a long slice costs that once, many short ones each time. */
+static inline uint32_t mb_image_run(const mb_image_setting *setting, uint32_t number, uint8_t *ram, size_t ram_length,
+                                    mb_record *record, uint32_t budget, mb_stopped *stopped)
+{
+    const mb_image *image = &setting->image;
+    uint8_t bytes[MB_RECORD_BYTES], own[4] = {0, 0, 0, 0};
+    uint32_t answer;
+    mb_internal_to_bytes(record, bytes);
+    answer = mb_raw_image_run(mb_internal_read(image->image, image->image_length, &own[0]), image->image_length,
+                              mb_internal_read(image->index, image->index_length, &own[1]), image->index_length,
+                              image->never_return, image->profile, number,
+                              mb_internal_written(ram, ram_length, &own[2]), ram_length,
+                              mb_internal_read(setting->external, setting->external_length, &own[3]),
+                              setting->external_length, setting->window_start, setting->window_end,
+                              bytes, sizeof bytes, budget,
+                              &stopped->kind, &stopped->value, &stopped->literal, &stopped->position, &stopped->steps);
+    mb_internal_from_bytes(bytes, record);
+    return answer;
+}
+
+/* One step: a run with budget 1, as mb_raw_image_step is proved to be. It too counts every
+ * page. */
+static inline uint32_t mb_image_step(const mb_image_setting *setting, uint32_t number, uint8_t *ram, size_t ram_length,
+                                     mb_record *record, mb_stopped *stopped)
+{
+    return mb_image_run(setting, number, ram, ram_length, record, 1, stopped);
+}
+
+/* ---- Exits */
+
 /* What a service asks of the host, by its low byte and its literal. */
 static inline mb_exit_parts mb_exit(uint32_t low, uint32_t literal)
 {
@@ -559,6 +704,7 @@ static inline mb_exit_parts mb_exit_of(const mb_stopped *stopped)
 
 /* ---- Words of a number; "unknown" if it has none. */
 
+/* Those of 1 are a page's; from mb_image_replace it says that the page isn't 256 bytes. */
 static inline const char *mb_refusal_words(uint32_t number)
 {
     switch (number) {
@@ -572,8 +718,12 @@ static inline const char *mb_refusal_words(uint32_t number)
     case MB_REFUSED_NO_SUCH_BUNDLE: return "asked bundle is not in the page";
     case MB_REFUSED_NOT_GROUPED: return "short form is not in shortest groups, is cut off or is followed by bytes";
     case MB_REFUSED_ROOM_TOO_SMALL: return "room for the written form is too small";
+    case MB_REFUSED_IMAGE_LENGTH: return "image is not 1 to 4096 pages of 256 bytes";
+    case MB_REFUSED_NO_SUCH_PAGE: return "page is not in the image";
+    case MB_REFUSED_INDEX_LENGTH: return "index is not one byte a page";
     case MB_REFUSED_UNKNOWN_PROFILE: return "unknown profile";
     case MB_REFUSED_WINDOW_BOUNDS: return "window starts above its end or ends above 32768";
+    case MB_REFUSED_WRONG_INDEX: return "index byte is not its page's count";
     case MB_REFUSED_SP_BOUNDS: return "SP is below 0x10000 or above 0x18000";
     case MB_REFUSED_SP_ALIGNMENT: return "SP is no multiple of 4";
     case MB_REFUSED_RAM_OFFSET: return "RAM offset is not below 2^20";

@@ -13,7 +13,7 @@ built() {
 }
 
 # The sanitizers see what the header does outside an area. In lent.c nothing comes from the archive.
-for test in host bytes lent; do
+for test in host image bytes lent; do
   built gcc "tests/$test.c" -std=c99 -O1 -fsanitize=address,undefined -fno-sanitize-recover
   "$scratch/built"
 done

@@ -103,6 +103,10 @@ found held_header "$header" 's/size_t \*length, uint32_t \*position/uint32_t *po
 found held_header "$header" 's/uint32_t window_start, uint32_t window_end/uint32_t window_end, uint32_t window_start/'
 found held_header "$header" 's/uint32_t window_start, uint32_t window_end,//'
 found held_header "$header" 's/uint32_t window_end/uint64_t window_end/'
+found held_header "$header" 's/const uint8_t \*index/uint8_t *index/'
+found held_header "$header" '/mb_raw_image_build/s/const uint8_t \*image/uint8_t *image/'
+found held_header "$header" 's/uint32_t profile, uint32_t number/uint32_t number, uint32_t profile/'
+found held_header "$header" 's/uint32_t number/uint64_t number/'
 found held_header "$header" '/mb_raw_version/d'
 found held_declarations "$declarations" 's/page: \*const u8/page: *mut u8/'
 found held_declarations "$declarations" 's/value: \*mut u32/values: *mut u32/; s/literal: \*mut u32/value: *mut u32/; s/values: \*mut u32/literal: *mut u32/'
@@ -117,4 +121,7 @@ found held_declarations "$declarations" 's/ length: \*mut usize/ length: *mut u3
 found held_declarations "$declarations" 's/window_start: u32/window: u32/; s/window_end: u32/window_start: u32/; s/window: u32/window_end: u32/'
 found held_declarations "$declarations" '/mb_raw_step/,/-> u32/{ /window_start: /d; }'
 found held_declarations "$declarations" 's/window_end: u32/window_end: u64/'
-echo "header.sh: $(wc -l <"$scratch/exported") declarations held to the source in C and in Rust; thirty wrong ones found"
+found held_declarations "$declarations" '/mb_raw_image_run/,/-> u32/s/index: \*const u8/index: *mut u8/'
+found held_declarations "$declarations" '/mb_raw_image_replace/,/-> u32/{ s/image: /images: /; s/index: /image: /; s/images: /index: /; }'
+found held_declarations "$declarations" 's/number: u32/number: u64/'
+echo "header.sh: $(wc -l <"$scratch/exported") declarations held to the source in C and in Rust; thirty-seven wrong ones found"

@@ -1,7 +1,7 @@
 /* The header's calls with null areas of length 0, over proved calls of this file's own instead of the archive's: what they are
- * lent is never null and never overlaps, which the archive wouldn't show. The set of syscalls and the profile are the program's,
- * whole, the window is the setting's, and the position and the length that come back are the proved call's. Areas with bytes are
- * lent as they are, and stay where the proved call doesn't write. */
+ * lent is never null and never overlaps, which the archive wouldn't show. The set of syscalls and the profile are the program's
+ * or the image's, whole, the window is the setting's, the page's number is the call's, and the position and the length that come
+ * back are the proved call's. Areas with bytes are lent as they are, and stay where the proved call doesn't write. */
 #include "check.h"
 #include "marshbodkin.h"
 
@@ -15,15 +15,19 @@
 #define WINDOW_START UINT32_C(0x80000002)
 #define WINDOW_END UINT32_C(0x80000003)
 
-/* Positions, and a length, that the proved calls write; answers of two. */
-enum { STORE_POSITION = 71, LOAD_POSITION = 72, RUN_POSITION = 73, PACK_POSITION = 74, UNPACK_POSITION = 75 };
+/* The number of a page. */
+#define NUMBER UINT32_C(0x80000004)
+
+/* Positions, and a length, that the proved calls write; answers of some. */
+enum { STORE_POSITION = 71, LOAD_POSITION = 72, RUN_POSITION = 73, PACK_POSITION = 74, UNPACK_POSITION = 75,
+       IMAGE_RUN_POSITION = 76 };
 #define PACKED_LENGTH (SIZE_MAX - 1)
-enum { PACK_ANSWER = 98, UNPACK_ANSWER = 97 };
+enum { PACK_ANSWER = 98, UNPACK_ANSWER = 97, BUILD_ANSWER = 96, REPLACE_ANSWER = 95 };
 
 /* The areas of one call, and how many have another length than 0. */
-static const uint8_t *areas[3];
-static size_t lengths[3];
-static uint32_t areas_lent, other_lengths, other_sets, other_profiles, other_windows;
+static const uint8_t *areas[4];
+static size_t lengths[4];
+static uint32_t areas_lent, other_lengths, other_sets, other_profiles, other_windows, other_numbers;
 
 static void take(const uint8_t *area, size_t length)
 {
@@ -113,6 +117,46 @@ uint32_t mb_raw_run(const uint8_t *page, size_t page_length, uint64_t never_retu
     return budget + mb_raw_fresh(record, record_length);
 }
 
+static void take_image(const uint8_t *image, size_t image_length, const uint8_t *index, size_t index_length,
+                       uint64_t never_return, uint32_t profile)
+{
+    take_program(image, image_length, never_return, profile);
+    take(index, index_length);
+}
+
+uint32_t mb_raw_image_build(const uint8_t *image, size_t image_length, uint8_t *index, size_t index_length,
+                            uint64_t never_return, uint32_t profile)
+{
+    take_image(image, image_length, index, index_length, never_return, profile);
+    return BUILD_ANSWER;
+}
+
+uint32_t mb_raw_image_replace(uint8_t *image, size_t image_length, uint8_t *index, size_t index_length, uint64_t never_return,
+                              uint32_t profile, uint32_t number, const uint8_t *page, size_t page_length)
+{
+    take_image(image, image_length, index, index_length, never_return, profile);
+    take(page, page_length);
+    other_numbers += number != NUMBER;
+    return REPLACE_ANSWER;
+}
+
+/* It answers the budget, as the run of a lone page does. */
+uint32_t mb_raw_image_run(const uint8_t *image, size_t image_length, const uint8_t *index, size_t index_length,
+                          uint64_t never_return, uint32_t profile, uint32_t number, uint8_t *ram, size_t ram_length,
+                          const uint8_t *external, size_t external_length, uint32_t window_start, uint32_t window_end,
+                          uint8_t *record, size_t record_length, uint32_t budget, uint32_t *kind, uint32_t *value,
+                          uint32_t *literal, uint32_t *position, uint32_t *steps)
+{
+    take_image(image, image_length, index, index_length, never_return, profile);
+    take(ram, ram_length);
+    take(external, external_length);
+    other_numbers += number != NUMBER;
+    other_windows += window_start != WINDOW_START || window_end != WINDOW_END;
+    *kind = *value = *literal = *steps = 0;
+    *position = IMAGE_RUN_POSITION;
+    return budget + mb_raw_fresh(record, record_length);
+}
+
 /* What a call answered, and how many areas it was lent. */
 static void check_lent(int line, uint32_t answer, uint32_t expected, uint32_t number)
 {
@@ -122,11 +166,12 @@ static void check_lent(int line, uint32_t answer, uint32_t expected, uint32_t nu
     check(line, "other sets", other_sets, 0);
     check(line, "other profiles", other_profiles, 0);
     check(line, "other windows", other_windows, 0);
+    check(line, "other numbers", other_numbers, 0);
     for (uint32_t i = 0; i < areas_lent; i++) {
         check(line, "null", areas[i] == NULL, false);
-        check(line, "overlap", i > 0 && areas[i] == areas[i - 1], false);
+        for (uint32_t j = 0; j < i; j++)
+            check(line, "overlap", areas[i] == areas[j], false);
     }
-    check(line, "ends overlap", areas_lent == 3 && areas[0] == areas[2], false);
     areas_lent = 0;
 }
 
@@ -180,6 +225,66 @@ static void pack_of_bytes(void)
     check_given(__LINE__, 1, sizeof room);
 }
 
+static mb_image_setting image_setting(mb_image image)
+{
+    mb_image_setting setting;
+    image.never_return = NEVER_RETURN;
+    image.profile = PROFILE;
+    setting = mb_image_setting_of(image, NULL, 0);
+    setting.window_start = WINDOW_START;
+    setting.window_end = WINDOW_END;
+    return setting;
+}
+
+static void images_of_nothing(void)
+{
+    mb_image_setting setting = image_setting(mb_image_of(NULL, 0, NULL, 0));
+    mb_record record = mb_fresh();
+    mb_stopped stopped = mb_nothing_run();
+    LENT(mb_image_build(&setting.image), BUILD_ANSWER, 2);
+    LENT(mb_image_replace(&setting.image, NUMBER, NULL, 0), REPLACE_ANSWER, 3);
+    LENT(mb_image_run(&setting, NUMBER, NULL, 0, &record, 0, &stopped), 0, 4);
+    CHECK(stopped.position, IMAGE_RUN_POSITION);
+    stopped = mb_nothing_run();
+    LENT(mb_image_step(&setting, NUMBER, NULL, 0, &record, &stopped), 1, 4);
+    CHECK(stopped.position, IMAGE_RUN_POSITION);
+}
+
+/* The image and the index of a call, of these lengths, are what given and room are lent as; then come the others. */
+static void check_image(int line, size_t image_length, size_t index_length, uint32_t number)
+{
+    check(line, "areas", areas_lent, number);
+    areas_lent = 2;
+    check_given(line, image_length, index_length);
+}
+
+static void images_of_bytes(void)
+{
+    static uint8_t page[3], ram[5];
+    const size_t image_length = sizeof given, index_length = sizeof room;
+    mb_image_setting setting = image_setting(mb_image_of(given, image_length, room, index_length));
+    mb_record record = mb_fresh();
+    mb_stopped stopped = mb_nothing_run();
+    memset(given, 0x5A, sizeof given);
+    memset(room, 0xA5, sizeof room);
+    mb_image_build(&setting.image);
+    check_image(__LINE__, image_length, index_length, 2);
+    mb_image_replace(&setting.image, NUMBER, page, sizeof page);
+    CHECK(areas[2] == page && lengths[2] == sizeof page, true);
+    check_image(__LINE__, image_length, index_length, 3);
+    setting.external = page;
+    setting.external_length = sizeof page;
+    mb_image_run(&setting, NUMBER, ram, sizeof ram, &record, 0, &stopped);
+    CHECK(areas[2] == ram && lengths[2] == sizeof ram, true);
+    CHECK(areas[3] == page && lengths[3] == sizeof page, true);
+    check_image(__LINE__, image_length, index_length, 4);
+    mb_image_step(&setting, NUMBER, ram, sizeof ram, &record, &stopped);
+    CHECK(areas[2] == ram && lengths[2] == sizeof ram, true);
+    CHECK(areas[3] == page && lengths[3] == sizeof page, true);
+    check_image(__LINE__, image_length, index_length, 4);
+    CHECK(other_sets + other_profiles + other_windows + other_numbers, 0);
+}
+
 int main(void)
 {
     mb_program program = mb_program_of(NULL, 0);
@@ -214,5 +319,7 @@ int main(void)
     CHECK(stopped.position, RUN_POSITION);
     pack_of_nothing();
     pack_of_bytes();
+    images_of_nothing();
+    images_of_bytes();
     return outcome("lent.c");
 }

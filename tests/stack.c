@@ -18,6 +18,7 @@ static void (*measured)(void);
 /* What is lent to the calls. */
 static uint8_t page[MB_PAGE_MOST], ram[MB_RAM_BYTES], external[256], record[MB_RECORD_BYTES], room[MB_RECORD_BYTES];
 static uint8_t packed[MB_SHORT_MOST];
+static uint8_t image[2 * MB_IMAGE_PAGE_BYTES], image_index[2]; /* the page is the second of an image */
 static uint8_t no_record[MB_RECORD_BYTES] = {[MB_AT_BASE_KIND] = 3};
 /* A record of the longest short form, with five groups for each register; and a number of six. */
 static const uint8_t longest[MB_RECORD_BYTES] = {
@@ -126,6 +127,75 @@ static void steps(void)
     } while (stopped.kind == MB_STOP_BUDGET || stopped.kind == MB_STOP_SERVICE);
 }
 
+static void image_build(void)
+{
+    refused += mb_raw_image_build(image, sizeof image - 1, image_index, sizeof image_index, never_return, profile);
+    refused += mb_raw_image_build(image, sizeof image, image_index, 1, never_return, profile);
+    code = mb_raw_image_build(image, sizeof image, image_index, sizeof image_index, never_return, profile);
+}
+
+static uint32_t replace_by(uint32_t number, size_t new_length)
+{
+    return mb_raw_image_replace(image, sizeof image, image_index, sizeof image_index, never_return, profile, number, page,
+                                new_length);
+}
+
+static void image_replace(void)
+{
+    refused += replace_by(2, sizeof page);
+    refused += replace_by(1, sizeof page - 4);
+    code = replace_by(1, sizeof page);
+}
+
+static uint32_t image_run_from(uint8_t *bytes, uint32_t window_end)
+{
+    return mb_raw_image_run(image, sizeof image, image_index, sizeof image_index, never_return, profile, 1, ram, sizeof ram,
+                            external, sizeof external, 0, window_end, bytes, MB_RECORD_BYTES, 1000, &stopped.kind,
+                            &stopped.value, &stopped.literal, &stopped.position, &stopped.steps);
+}
+
+static uint32_t image_step_from(uint8_t *bytes, uint32_t window_end)
+{
+    return mb_raw_image_step(image, sizeof image, image_index, sizeof image_index, never_return, profile, 1, ram, sizeof ram,
+                             external, sizeof external, 0, window_end, bytes, MB_RECORD_BYTES, &stopped.kind, &stopped.value,
+                             &stopped.literal, &stopped.position, &stopped.steps);
+}
+
+/* As the run and the steps of the page alone, and refused by an index with a wrong byte at its end. */
+static void image_run(void)
+{
+    image_index[1]++;
+    refused += image_run_from(record, MB_RAM_BYTES);
+    image_index[1]--;
+    refused += image_run_from(no_record, MB_RAM_BYTES);
+    refused += image_run_from(no_record, MB_RAM_BYTES + 1);
+    fresh();
+    refused += image_run_from(record, 0);
+    refused += stopped.value;
+    fresh();
+    do {
+        code = image_run_from(record, MB_RAM_BYTES);
+    } while (stopped.kind == MB_STOP_SERVICE);
+}
+
+static void image_steps(void)
+{
+    image_index[1]++;
+    refused += image_step_from(record, MB_RAM_BYTES);
+    image_index[1]--;
+    refused += image_step_from(no_record, MB_RAM_BYTES);
+    refused += image_step_from(no_record, MB_RAM_BYTES + 1);
+    fresh();
+    do {
+        refused += image_step_from(record, 0);
+        refused += stopped.value;
+    } while (stopped.kind == MB_STOP_BUDGET);
+    fresh();
+    do {
+        code = image_step_from(record, MB_RAM_BYTES);
+    } while (stopped.kind == MB_STOP_BUDGET || stopped.kind == MB_STOP_SERVICE);
+}
+
 /* No call: it takes more than any may. */
 static void greedy(void)
 {
@@ -162,7 +232,9 @@ static size_t taken_by(void (*call)(void))
     return (size_t)(top - (stack + untouched));
 }
 
-/* ---- a page that reaches every function that a run comes to */
+/* ---- a page that reaches every function that a run comes to; so many of its bundles are code */
+
+enum { CODE = 17 };
 
 static void put_page(void)
 {
@@ -196,6 +268,9 @@ static void lend(uint32_t in_profile)
     put_page();
     if (profile == MB_PROFILE_SMALL)
         leave_out_32_bits();
+    memcpy(image + MB_IMAGE_PAGE_BYTES, page, sizeof page);
+    image_index[0] = 0;
+    image_index[1] = CODE;
     stopped = mb_nothing_run();
     refused = 0;
 }
@@ -230,6 +305,12 @@ int main(void)
         {"store", store, 0, MB_REFUSED_FORM_RANGE}, {"load", load, 0, MB_REFUSED_FORM_RANGE},
         {"pack", pack, 0, MB_REFUSED_FORM_RANGE + MB_REFUSED_ROOM_TOO_SMALL},
         {"unpack", unpack, 0, MB_REFUSED_NOT_GROUPED + MB_REFUSED_FORM_RANGE}, {"exit", decode_exit, 0, 0},
+        {"image_build", image_build, 0, MB_REFUSED_IMAGE_LENGTH + MB_REFUSED_INDEX_LENGTH},
+        {"image_replace", image_replace, 0, MB_REFUSED_NO_SUCH_PAGE + MB_REFUSED_PAGE_LENGTH},
+        {"image_step", image_steps, 0x16,
+         MB_REFUSED_WRONG_INDEX + MB_REFUSED_NO_RECORD + MB_REFUSED_WINDOW_BOUNDS + MB_FAULT_OUTSIDE_WINDOW},
+        {"image_run", image_run, 0x16,
+         MB_REFUSED_WRONG_INDEX + MB_REFUSED_NO_RECORD + MB_REFUSED_WINDOW_BOUNDS + MB_FAULT_OUTSIDE_WINDOW},
     };
     for (size_t i = 0; i < sizeof calls / sizeof calls[0]; i++) {
         size_t most = most_taken(calls[i]);

@@ -1,4 +1,5 @@
-/* Two threads run different pages at once, over and over; each must come to what its page comes to alone. */
+/* Two threads run different pages at once, over and over, by turns as a lone page and in an image that both share; each must
+ * come to what its page comes to alone. */
 #define _XOPEN_SOURCE 700
 #include "check.h"
 #include "marshbodkin.h"
@@ -13,6 +14,7 @@ enum { ROUNDS = 2000, SLICE = 500, SLICES = 10 };
 typedef struct {
     uint8_t page[MB_PAGE_MOST];
     size_t page_length;
+    uint32_t number; /* of the page in the image */
     uint8_t ram[MB_RAM_BYTES];
     mb_record record;
     mb_stopped stops[SLICES];
@@ -29,21 +31,30 @@ static const uint16_t memory[] = {
     0xF2C0, 0x0001, 0xBF00, 0xDFE0, 0xF8C9, 0x0000, 0xF8D9, 0x1000, 0x185B, 0x9300, 0x3004, 0xE7F5,
 };
 
-static void begin(work *w, const uint16_t *halfwords, size_t number)
+static uint8_t pages[2 * MB_IMAGE_PAGE_BYTES], counts[2];
+
+static mb_image image(void) { return mb_image_of(pages, sizeof pages, counts, sizeof counts); }
+
+static void begin(work *w, uint32_t number, const uint16_t *halfwords, size_t length)
 {
     memset(w, 0, sizeof *w);
-    w->page_length = 2 * number;
-    put_halfwords(w->page, halfwords, number);
+    w->page_length = 2 * length;
+    w->number = number;
+    put_halfwords(w->page, halfwords, length);
+    memcpy(pages + MB_IMAGE_PAGE_BYTES * number, w->page, sizeof w->page);
 }
 
 static void run_slices(work *w)
 {
     mb_setting setting = mb_setting_of(mb_program_of(w->page, w->page_length), NULL, 0);
+    mb_image_setting shared = mb_image_setting_of(image(), NULL, 0);
     memset(w->ram, 0, sizeof w->ram);
     w->record = mb_fresh();
     w->record.sp = 0x17FFC;
     for (size_t i = 0; i < SLICES; i++)
-        w->refusals += mb_run(&setting, w->ram, sizeof w->ram, &w->record, SLICE, &w->stops[i]);
+        w->refusals += i % 2 == 0
+                           ? mb_run(&setting, w->ram, sizeof w->ram, &w->record, SLICE, &w->stops[i])
+                           : mb_image_run(&shared, w->number, w->ram, sizeof w->ram, &w->record, SLICE, &w->stops[i]);
 }
 
 static bool same_work(const work *one, const work *other)
@@ -75,8 +86,12 @@ int main(void)
 {
     static thread_work works[2];
     pthread_t threads[2];
-    begin(&works[0].now, arithmetic, sizeof arithmetic / sizeof arithmetic[0]);
-    begin(&works[1].now, memory, sizeof memory / sizeof memory[0]);
+    mb_image of = image();
+    begin(&works[0].now, 0, arithmetic, sizeof arithmetic / sizeof arithmetic[0]);
+    begin(&works[1].now, 1, memory, sizeof memory / sizeof memory[0]);
+    CHECK(mb_image_build(&of), MB_ACCEPTED);
+    CHECK(counts[0], 8);
+    CHECK(counts[1], 6);
     for (size_t i = 0; i < 2; i++) {
         run_slices(&works[i].now);
         works[i].alone = works[i].now;

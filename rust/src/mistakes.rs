@@ -1,5 +1,6 @@
 //! Deliberate mistakes: a comparison that does not find them is worth nothing.
 
+mod images;
 mod short;
 mod windows;
 
@@ -228,8 +229,15 @@ const MISTAKES: [(&str, Rules); 28] = [
     ),
 ];
 
-/// All mistakes, those of windows and of the short form last.
+/// All mistakes, those of windows, of images and of the short form last.
 fn all() -> impl Iterator<Item = (&'static str, Rules)> {
+    let of_images = images::MISTAKES.into_iter().map(|(name, images)| {
+        let rules = Rules {
+            images,
+            ..Rules::RIGHT
+        };
+        (name, rules)
+    });
     let of_the_short_form = short::MISTAKES.into_iter().map(|(name, short)| {
         let rules = Rules {
             short,
@@ -238,7 +246,7 @@ fn all() -> impl Iterator<Item = (&'static str, Rules)> {
         (name, rules)
     });
     let others = MISTAKES.into_iter().chain(windows::MISTAKES);
-    others.chain(of_the_short_form)
+    others.chain(of_images).chain(of_the_short_form)
 }
 
 /// The names of all mistakes.

@@ -10,20 +10,28 @@ use lib.Seq.{take-suc, take-suc-set, take-all, paste}
 use borrow.Author.Tests.{eqb-true, eq-eqb}
 use Rattle.laws.proofs.Tests.{both}
 use Rattle.image.specs.Images.{Image, pagesIn, withPageAt}
-use Rattle.image.specs.Index.{countAt, countsFrom, countsIn, equalLists}
+use Rattle.image.specs.Index.{countAt, eachFrom, countsIn, equalLists}
 
 -- ---- counts
 
-pub counts-length : (image : Image) (p n : ℕ) → length (countsFrom image p n) ≡ n
-counts-length image p zero = refl
-counts-length image p (suc n) = ap suc (counts-length image (p + 1) n)
+each-length : (number : ℕ → ℕ) (p n : ℕ) → length (eachFrom number p n) ≡ n
+each-length number p zero = refl
+each-length number p (suc n) = ap suc (each-length number (p + 1) n)
 
-pub count-among : (image : Image) (p n k : ℕ) → k < n → getD (countsFrom image p n) k 0 ≡ countAt image (p + k)
-count-among image p zero k l = absurd (omega arith)
-count-among image p (suc n) zero l = let here : p ≡ p + 0 = omega arith in ap (countAt image) here
-count-among image p (suc n) (suc k) l =
+each-among : (number : ℕ → ℕ) (p n k : ℕ) → k < n → getD (eachFrom number p n) k 0 ≡ number (p + k)
+each-among number p zero k l = absurd (omega arith)
+each-among number p (suc n) zero l = let here : p ≡ p + 0 = omega arith in ap number here
+each-among number p (suc n) (suc k) l =
     let next : p + 1 + k ≡ p + suc k = omega arith in
-    count-among image (p + 1) n k (omega arith) ∙ ap (countAt image) next
+    each-among number (p + 1) n k (omega arith) ∙ ap number next
+
+pub counts-length : (image : Image) → length (countsIn image) ≡ pagesIn (image .bytes)
+counts-length image = each-length (countAt image) 0 (pagesIn (image .bytes))
+
+pub count-among : (image : Image) (p : ℕ) → p < pagesIn (image .bytes) → getD (countsIn image) p 0 ≡ countAt image p
+count-among image p l =
+    let from : 0 + p ≡ p = omega arith in
+    each-among (countAt image) 0 (pagesIn (image .bytes)) p l ∙ ap (countAt image) from
 
 -- ---- equal lists
 
@@ -52,13 +60,11 @@ differ xs ys n = go (equalLists xs ys) refl
 
 module _ (image : Image) (index : List ℕ) (whole : length index ≡ pagesIn (image .bytes)) where
   counted : length index ≡ length (countsIn image)
-  counted = whole ∙ sym (counts-length image 0 (pagesIn (image .bytes)))
+  counted = whole ∙ sym (counts-length image)
 
   next-count : (p : ℕ) → p < length index → take (suc p) (countsIn image) ≡ take p (countsIn image) ++ (countAt image p ∷ [])
   next-count p l =
-      let among = count-among image 0 (pagesIn (image .bytes)) p (omega (arith, whole)) in
-      let from : 0 + p ≡ p = omega arith in
-      take-suc (countsIn image) p 0 (omega (arith, counted)) ∙ rw (among, from)
+      take-suc (countsIn image) p 0 (omega (arith, counted)) ∙ rw (count-among image p (omega (arith, whole)))
 
   -- the count of page p is stored
   pub fill-turn : (p n : ℕ) → p < length index → take p index ≡ take p (countsIn image) → n ≡ countAt image p
@@ -73,16 +79,14 @@ module _ (image : Image) (index : List ℕ) (whole : length index ≡ pagesIn (i
   -- it isn't
   pub other-byte : (p : ℕ) → p < length index → (getD index p 0 ≡ countAt image p → ⊥) → index ≡ countsIn image → ⊥
   other-byte p l n e =
-      let among = count-among image 0 (pagesIn (image .bytes)) p (omega (arith, whole)) in
-      let from : 0 + p ≡ p = omega arith in
-      n (ap (λ xs. getD xs p 0) e ∙ among ∙ ap (countAt image) from)
+      n (ap (λ xs. getD xs p 0) e ∙ count-among image p (omega (arith, whole)))
 
   pub all-same : (p : ℕ) → length index ≤ p → take p index ≡ take p (countsIn image) → index ≡ countsIn image
   all-same p l h = sym (take-all p index l) ∙ h ∙ take-all p (countsIn image) (omega (arith, counted))
 
 -- another length
 pub other-length : (image : Image) (index : List ℕ) → (length index ≡ pagesIn (image .bytes) → ⊥) → index ≡ countsIn image → ⊥
-other-length image index n e = n (ap length e ∙ counts-length image 0 (pagesIn (image .bytes)))
+other-length image index n e = n (ap length e ∙ counts-length image)
 
 -- ---- a part of an image
 

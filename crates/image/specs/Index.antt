@@ -15,14 +15,14 @@ use Rattle.image.specs.Images.{Image, pagesIn, programAt, withPageAt, im
 abbrev pub countAt : Image → ℕ → ℕ
 countAt image p = countProgram (programAt image p) .count
 
--- of n pages from p on
-abbrev pub countsFrom : Image → ℕ → ℕ → List ℕ
-countsFrom image p zero = []
-countsFrom image p (suc n) = countAt image p ∷ countsFrom image (p + 1) n
+-- a number for each of n pages, from page p on
+abbrev pub eachFrom : (ℕ → ℕ) → ℕ → ℕ → List ℕ
+eachFrom number p zero = []
+eachFrom number p (suc n) = number p ∷ eachFrom number (p + 1) n
 
--- of all its pages, worked out afresh
+-- the counts of all its pages, worked out afresh
 abbrev pub countsIn : Image → List ℕ
-countsIn image = countsFrom image 0 (pagesIn (image .bytes))
+countsIn image = eachFrom (countAt image) 0 (pagesIn (image .bytes))
 
 -- two lists are equal
 unfoldable pub equalLists : List ℕ → List ℕ → Bool
@@ -37,8 +37,11 @@ indexRule image = rule (not (equalLists (image .index) (countsIn image))) 21 []
 
 -- ---- an index that is built: 18, 12, 14
 
+abbrev pub buildRules : Image → List Rule
+buildRules image = profileRule (image .profile) ∷ imageRule (image .bytes) ∷ indexLengthRule image ∷ []
+
 abbrev pub buildDecision : Image → Decision
-buildDecision image = decision (profileRule (image .profile) ∷ imageRule (image .bytes) ∷ indexLengthRule image ∷ [])
+buildDecision image = decision (buildRules image)
 
 -- refused, it stays
 abbrev pub indexBuilt : Image → List ℕ
@@ -46,8 +49,11 @@ indexBuilt image = whenAccepted (buildDecision image) (countsIn image) (image .i
 
 -- ---- a page that is replaced: 18, 12, 13, 14, 1
 
+abbrev pub replaceRules : Image → ℕ → List ℕ → List Rule
+replaceRules image p page = imageRules image p ++ (wholePageRule page ∷ [])
+
 abbrev pub replaceDecision : Image → ℕ → List ℕ → Decision
-replaceDecision image p page = decision (imageRules image p ++ (wholePageRule page ∷ []))
+replaceDecision image p page = decision (replaceRules image p page)
 
 -- page p is the given one, and byte p its count; all else stays
 abbrev pub replaced : Image → ℕ → List ℕ → Image

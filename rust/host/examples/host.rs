@@ -7,8 +7,9 @@
 use std::error::Error;
 use std::process::ExitCode;
 
+use marshbodkin::IMAGE_PAGE_LENGTH;
 use marshbodkin::{syscall_bit, version, VERSION};
-use marshbodkin::{Exit, Program, Record, Refusal, Setting, Stop, Window};
+use marshbodkin::{Exit, Image, ImageSetting, Program, Record, Refusal, Setting, Stop, Window};
 use marshbodkin::{BUNDLE_LENGTH, EXTERNAL_PAGE_LENGTH, EXTERNAL_START, RAM_LENGTH, SHORT_MOST};
 
 type Outcome = Result<(), Box<dyn Error>>;
@@ -186,6 +187,24 @@ fn cycles(host: &mut Host) -> Outcome {
     host.cycle(&mut record)
 }
 
+/// Filters of many pages are kept in an image, with the count of each page beside it.
+/// The filter takes the place of page 1, whose byte alone changes, and runs there as it
+/// does alone: without a pair, to its abort. Its page is filled up with zeros.
+fn in_an_image(filter: &[u8]) -> Outcome {
+    let (mut pages, mut counts) = ([0; 2 * IMAGE_PAGE_LENGTH], [0; 2]);
+    let mut image = Image::new(&mut pages, &mut counts).never_return(syscall_bit(ABORT));
+    image.build()?;
+    let mut page = filter.to_vec();
+    page.resize(IMAGE_PAGE_LENGTH, 0);
+    image.replace(1, &page)?;
+    println!("image: counts {} {}", image.index()[0], image.index()[1]);
+    let (mut ram, mut record) = (vec![0; RAM_LENGTH], Record::default());
+    let stopped = ImageSetting::new(&image).run(1, &mut ram, &mut record, SLICE)?;
+    let exit = stopped.stop.exit().ok_or("no exit")?;
+    println!("page 1: {exit} after {} steps", stopped.steps);
+    Ok(())
+}
+
 /// All that is printed.
 fn show() -> Outcome {
     if version() != VERSION {
@@ -208,7 +227,7 @@ fn show() -> Outcome {
         print!(" {:+.1}", hpa_of(u32::from_le_bytes(word.try_into()?)));
     }
     println!();
-    Ok(())
+    in_an_image(&page)
 }
 
 fn main() -> ExitCode {

@@ -2,9 +2,9 @@
 //! behind types with the words of the build paper ("01"). `docs/MACHINE.md` says
 //! what the machine does.
 //!
-//! Page, RAM, external data and record are the host's own; the library keeps
+//! Page, image, RAM, external data and record are the host's own; the library keeps
 //! nothing between calls. What is lent can be anything: a refused call gives
-//! the [`Refusal`], and leaves RAM and the record as they were.
+//! the [`Refusal`], and leaves RAM, record, image and index as they were.
 //!
 //! 01's example page has four bundles, of which three are counted. It returns
 //! to the host from the third:
@@ -59,13 +59,17 @@
 //! the host says, by [`Program::profile`], that it is for a smaller processor. All of
 //! RAM is the filter's unless the host gives it a part, by [`Setting::window`].
 //!
-//! Programs, settings, records and enums will gain parts; hosts that make the
-//! first three as shown here, and match enums with `_` last, stay right.
+//! Filters of many pages are an [`Image`], with the count of each page beside it, and
+//! run by an [`ImageSetting`].
+//!
+//! Programs, settings, images, records and enums will gain parts; hosts that make the
+//! first four as shown here, and match enums with `_` last, stay right.
 
 #![deny(unsafe_code)]
 #![deny(missing_docs)]
 
 mod exit;
+mod image;
 mod program;
 #[allow(unsafe_code)]
 pub mod raw;
@@ -77,6 +81,7 @@ mod window;
 pub mod words;
 
 pub use exit::Exit;
+pub use image::{Image, ImageSetting, IMAGE_PAGES_MOST, IMAGE_PAGE_LENGTH};
 pub use program::{Program, Reading, Setting};
 pub use record::{Base, Flags, Record, RECORD_LENGTH};
 pub use record::{AT_BASE_KIND, AT_BASE_OFFSET, AT_FLAGS, AT_PLACE, AT_R0, AT_SP};
@@ -116,7 +121,7 @@ pub const PROFILE_FULL: u32 = 0;
 pub const PROFILE_SMALL: u32 = 1;
 
 /// The version of these calls: 65536 * major + 256 * minor + patch.
-pub const VERSION: u32 = 0x00_07_00;
+pub const VERSION: u32 = 0x00_08_00;
 
 /// The version of the archive that is linked, to be held against [`VERSION`]
 /// before any other call.

@@ -234,7 +234,7 @@ impl<'a> Setting<'a> {
 }
 
 /// A step or a run on a record's bytes, which come back if it isn't refused.
-fn crossing(
+pub(crate) fn crossing(
     record: &mut Record,
     call: impl FnOnce(&mut [u8]) -> raw::Answer,
 ) -> Result<Stopped, Refusal> {

@@ -12,8 +12,9 @@
 //! past RAM. This is the one module with `unsafe`.
 
 use marshbodkin_sys::{
-    mb_raw_count, mb_raw_exit, mb_raw_fresh, mb_raw_load, mb_raw_pack, mb_raw_read_bundle,
-    mb_raw_run, mb_raw_step, mb_raw_store, mb_raw_unpack, mb_raw_validate, mb_raw_version,
+    mb_raw_count, mb_raw_exit, mb_raw_fresh, mb_raw_image_build, mb_raw_image_replace,
+    mb_raw_image_run, mb_raw_image_step, mb_raw_load, mb_raw_pack, mb_raw_read_bundle, mb_raw_run,
+    mb_raw_step, mb_raw_store, mb_raw_unpack, mb_raw_validate, mb_raw_version,
 };
 
 use crate::window::Window;
@@ -230,6 +231,132 @@ pub fn step(
             page.len(),
             never_return,
             profile,
+            ram.as_mut_ptr(),
+            ram.len(),
+            external.as_ptr(),
+            external.len(),
+            window.start,
+            window.end,
+            record.as_mut_ptr(),
+            record.len(),
+            &mut answer.kind,
+            &mut answer.value,
+            &mut answer.literal,
+            &mut answer.position,
+            &mut answer.steps,
+        )
+    };
+    answer
+}
+
+/// Fills the index with the counts of the image's pages.
+pub fn image_build(image: &[u8], index: &mut [u8], never_return: u64, profile: u32) -> u32 {
+    // SAFETY: a slice and a `&mut` slice, as above.
+    unsafe {
+        mb_raw_image_build(
+            image.as_ptr(),
+            image.len(),
+            index.as_mut_ptr(),
+            index.len(),
+            never_return,
+            profile,
+        )
+    }
+}
+
+/// Puts a page at a number of the image, and its count into its byte of the index.
+pub fn image_replace(
+    image: &mut [u8],
+    index: &mut [u8],
+    never_return: u64,
+    profile: u32,
+    number: u32,
+    page: &[u8],
+) -> u32 {
+    // SAFETY: two `&mut` slices and a slice, as above.
+    unsafe {
+        mb_raw_image_replace(
+            image.as_mut_ptr(),
+            image.len(),
+            index.as_mut_ptr(),
+            index.len(),
+            never_return,
+            profile,
+            number,
+            page.as_ptr(),
+            page.len(),
+        )
+    }
+}
+
+/// A run with a budget in the page of a number.
+#[allow(clippy::too_many_arguments)] // as many as the library's call has
+pub fn image_run(
+    image: &[u8],
+    index: &[u8],
+    never_return: u64,
+    profile: u32,
+    number: u32,
+    ram: &mut [u8],
+    external: &[u8],
+    window: Window,
+    record: &mut [u8],
+    budget: u32,
+) -> Answer {
+    let mut answer = Answer::default();
+    // SAFETY: slices, `&mut` slices and five parts of a local, as above.
+    answer.code = unsafe {
+        mb_raw_image_run(
+            image.as_ptr(),
+            image.len(),
+            index.as_ptr(),
+            index.len(),
+            never_return,
+            profile,
+            number,
+            ram.as_mut_ptr(),
+            ram.len(),
+            external.as_ptr(),
+            external.len(),
+            window.start,
+            window.end,
+            record.as_mut_ptr(),
+            record.len(),
+            budget,
+            &mut answer.kind,
+            &mut answer.value,
+            &mut answer.literal,
+            &mut answer.position,
+            &mut answer.steps,
+        )
+    };
+    answer
+}
+
+/// One step in the page of a number.
+#[allow(clippy::too_many_arguments)] // as many as the library's call has
+pub fn image_step(
+    image: &[u8],
+    index: &[u8],
+    never_return: u64,
+    profile: u32,
+    number: u32,
+    ram: &mut [u8],
+    external: &[u8],
+    window: Window,
+    record: &mut [u8],
+) -> Answer {
+    let mut answer = Answer::default();
+    // SAFETY: slices, `&mut` slices and five parts of a local, as above.
+    answer.code = unsafe {
+        mb_raw_image_step(
+            image.as_ptr(),
+            image.len(),
+            index.as_ptr(),
+            index.len(),
+            never_return,
+            profile,
+            number,
             ram.as_mut_ptr(),
             ram.len(),
             external.as_ptr(),

@@ -6,14 +6,15 @@ use std::fmt;
 use crate::words;
 
 /// Why a call is refused: 01's refusals, those of an unknown profile, of a window, of a
-/// record's fields and of the short form, and the library's own.
+/// record's fields, of the short form and of images, and the library's own.
 ///
 /// Two say where in the record's 44 bytes the first field begins that fails, by
 /// its position, as [`AT_SP`](crate::AT_SP): [`words::field`] names it.
 #[derive(Clone, Copy, Debug, PartialEq, Eq)]
 #[non_exhaustive]
 pub enum Refusal {
-    /// 1: the page is above 256 bytes or no multiple of 4.
+    /// 1: the page is above 256 bytes or no multiple of 4; from
+    /// [`Image::replace`](crate::Image::replace), it isn't 256 bytes.
     PageLength,
     /// 2: RAM isn't 32,768 bytes.
     RamLength,
@@ -37,12 +38,22 @@ pub enum Refusal {
     NotGrouped,
     /// 10: the room for the written form is too small.
     RoomTooSmall,
+    /// 12: the image isn't 1 to 4,096 pages of 256 bytes.
+    ImageLength,
+    /// 13: the page isn't in the image.
+    NoSuchPage,
+    /// 14: the index isn't one byte a page.
+    IndexLength,
     /// 18, before all others: the number given to
-    /// [`Program::profile`](crate::Program::profile) is no profile's.
+    /// [`Program::profile`](crate::Program::profile) or
+    /// [`Image::profile`](crate::Image::profile) is no profile's.
     UnknownProfile,
-    /// 20: the window given to [`Setting::window`](crate::Setting::window) starts above
-    /// its end or ends above 32,768.
+    /// 20: the window given to [`Setting::window`](crate::Setting::window) or
+    /// [`ImageSetting::window`](crate::ImageSetting::window) starts above its end or ends
+    /// above 32,768.
     WindowBounds,
+    /// 21: a byte of the index isn't its page's count.
+    WrongIndex,
     /// 41: SP is below 0x10000 or above 0x18000.
     SpBounds,
     /// 42: SP is no multiple of 4.
@@ -78,8 +89,12 @@ impl Refusal {
             8 => Refusal::NoSuchBundle,
             9 => Refusal::NotGrouped,
             10 => Refusal::RoomTooSmall,
+            12 => Refusal::ImageLength,
+            13 => Refusal::NoSuchPage,
+            14 => Refusal::IndexLength,
             18 => Refusal::UnknownProfile,
             20 => Refusal::WindowBounds,
+            21 => Refusal::WrongIndex,
             41 => Refusal::SpBounds,
             42 => Refusal::SpAlignment,
             43 => Refusal::RamOffset,
@@ -101,8 +116,12 @@ impl Refusal {
             Refusal::NoSuchBundle => 8,
             Refusal::NotGrouped => 9,
             Refusal::RoomTooSmall => 10,
+            Refusal::ImageLength => 12,
+            Refusal::NoSuchPage => 13,
+            Refusal::IndexLength => 14,
             Refusal::UnknownProfile => 18,
             Refusal::WindowBounds => 20,
+            Refusal::WrongIndex => 21,
             Refusal::SpBounds => 41,
             Refusal::SpAlignment => 42,
             Refusal::RamOffset => 43,

@@ -5,7 +5,8 @@ use crate::{AT_BASE_KIND, AT_BASE_OFFSET, AT_FLAGS, AT_PLACE, AT_R0, AT_SP};
 /// What is said of a number that has no words.
 const UNKNOWN: &str = "unknown";
 
-/// The words of what a call answers.
+/// The words of what a call answers. Those of 1 are a page's; from
+/// [`Image::replace`](crate::Image::replace) it says that the page isn't 256 bytes.
 pub fn refusal(number: u32) -> &'static str {
     match number {
         0 => "accepted",
@@ -18,8 +19,12 @@ pub fn refusal(number: u32) -> &'static str {
         8 => "asked bundle is not in the page",
         9 => "short form is not in shortest groups, is cut off or is followed by bytes",
         10 => "room for the written form is too small",
+        12 => "image is not 1 to 4096 pages of 256 bytes",
+        13 => "page is not in the image",
+        14 => "index is not one byte a page",
         18 => "unknown profile",
         20 => "window starts above its end or ends above 32768",
+        21 => "index byte is not its page's count",
         41 => "SP is below 0x10000 or above 0x18000",
         42 => "SP is no multiple of 4",
         43 => "RAM offset is not below 2^20",

@@ -78,7 +78,7 @@ fn refusals_and_faults_show_them() {
             _ => {}
         }
     }
-    for number in [4, 11, 19, 21, 40, 45, u32::MAX] {
+    for number in [4, 11, 15, 19, 22, 40, 45, u32::MAX] {
         assert_eq!(Refusal::of(number, 41), Some(Refusal::Unknown(number)));
     }
     assert_eq!(Refusal::Unknown(4).to_string(), "refused 4: unknown");

@@ -1,5 +1,6 @@
 //! How fast the library is, beside the second program in the same process:
-//! instructions, pages and stored forms a second, and how the time grows. No test.
+//! instructions, pages and stored forms a second, runs in images, and how the time grows.
+//! No test.
 
 #![forbid(unsafe_code)]
 
@@ -11,13 +12,16 @@ use marshbodkin_check::assemble::{self as asm, page_bytes, Bundle};
 use marshbodkin_check::compare::numbers::in_range;
 use marshbodkin_check::random::{self, Random};
 use marshbodkin_check::second::count::count_of;
+use marshbodkin_check::second::image::{run_in, Image, ImageSetting, Platform, MOST_PAGES, PAGE};
 use marshbodkin_check::second::machine::{run, Stop};
 use marshbodkin_check::second::memory::RAM_SIZE;
-use marshbodkin_check::second::page::Code;
+use marshbodkin_check::second::page::{Code, NeverReturn};
+use marshbodkin_check::second::profile::FULL;
 use marshbodkin_check::second::record::{stored_bytes, Record, STORED};
 use marshbodkin_check::second::rules::Rules;
 use marshbodkin_check::second::setting::Setting;
 use marshbodkin_check::second::short::{LEAST, MOST};
+use marshbodkin_check::second::window;
 
 /// Measurements of which the median is taken.
 const TIMES: usize = 31;
@@ -242,6 +246,80 @@ fn form_rates() {
     unpacked.rates("unpacking", "forms", CALLS as f64);
 }
 
+/// Pages of 256 bytes, so many and random, with one in front that returns at once.
+fn random_pages() -> Vec<Vec<u8>> {
+    let returns = page_bytes(&[[asm::RETURN, asm::RETURN]; 64]);
+    let random = (0..).map(|number| random::page(random::DEFAULT_SEED, number));
+    let whole = random.filter(|page| page.len() == PAGE).take(200);
+    std::iter::once(returns).chain(whole).collect()
+}
+
+/// Runs in page 0 of an image, which stop at their first instruction, on both sides, so many
+/// times over: what they take is the test of the index.
+fn image_runs(bytes: &[u8], times: usize) -> Taken {
+    let mut index = vec![0; bytes.len() / PAGE];
+    assert_eq!(raw::image_build(bytes, &mut index, 0, 0), 0);
+    let (mut ram, fresh) = (vec![0; RAM_SIZE], stored_bytes(&Record::fresh()));
+    let mut other = ram.clone();
+    let platform = Platform {
+        never_return: NeverReturn::NONE,
+        profile: FULL,
+    };
+    measure(
+        || {
+            for _ in 0..times {
+                let (mut record, bytes) = (fresh.clone(), black_box(bytes));
+                let (window, index) = (Window::WHOLE, &index[..]);
+                let (ram, record) = (&mut ram, &mut record);
+                let answer = raw::image_run(bytes, index, 0, 0, 0, ram, &[], window, record, 9);
+                assert_eq!((answer.kind, answer.steps), (1, 1));
+            }
+        },
+        || {
+            for _ in 0..times {
+                let mut record = fresh.clone();
+                let setting = ImageSetting {
+                    image: Image {
+                        bytes: black_box(bytes),
+                        index: &index,
+                        platform,
+                    },
+                    external: &[],
+                    window: window::Window::WHOLE,
+                };
+                let (_, steps) = run_in(RULES, setting, 0, &mut other, &mut record, 9);
+                assert_eq!(steps, 1);
+            }
+        },
+    )
+}
+
+/// How a run in an image grows with its pages.
+fn by_pages() {
+    println!("a run in an image that stops at its first instruction, by the image's pages");
+    let pages = random_pages();
+    for number in [1, 64, MOST_PAGES] {
+        let bytes: Vec<u8> = pages
+            .iter()
+            .cycle()
+            .take(number)
+            .flatten()
+            .copied()
+            .collect();
+        let times = MOST_PAGES / number;
+        let Taken { library, second } = image_runs(&bytes, times);
+        let counts = (number * times) as f64;
+        println!(
+            "  {number}: library {:.2} us a run, {:.3} M counts/s, second program {:.2} us, {:.3} M, ratio {:.2}",
+            library / times as f64 * 1e6,
+            counts / library / 1e6,
+            second / times as f64 * 1e6,
+            counts / second / 1e6,
+            second / library
+        );
+    }
+}
+
 /// How the time grows with the budget.
 fn by_budget(loops: &[Loop]) {
     println!("ns an instruction, by the budget of one run");
@@ -286,4 +364,5 @@ fn main() {
     form_rates();
     by_budget(&loops);
     by_length();
+    by_pages();
 }

@@ -58,10 +58,15 @@ pub(super) fn any_page(random: &mut Random, seed: u64, number: u64) -> (Vec<u8>,
 /// Either profile, mostly with what the small one lacks written anew for it.
 pub(super) fn profile_for(random: &mut Random, page: &mut [u8]) -> u32 {
     let profile = codes::either(random);
+    write_for(random, profile, page);
+    profile
+}
+
+/// Mostly writes what a profile lacks anew for it.
+pub(super) fn write_for(random: &mut Random, profile: u32, page: &mut [u8]) {
     if profile == SMALL && random.chance(80) {
         rewrite(random, page);
     }
-    profile
 }
 
 /// A page of listed bundles that branch to and fro.

@@ -88,7 +88,7 @@ pub fn compare(comparison: &mut Comparison) -> Same {
 }
 
 /// A page of 63 bundles, of which 60 are counted; bundle 3 has no second place.
-fn good_page() -> Vec<u8> {
+pub(super) fn good_page() -> Vec<u8> {
     let mut bundles = vec![[asm::NOP, asm::RETURN]; 63];
     bundles[3] = [asm::RETURN, asm::NOP];
     bundles[60] = [0xDE00, 0xDE00];
@@ -106,7 +106,7 @@ fn page(random: &mut Random, wrong: bool) -> Vec<u8> {
 }
 
 /// The length of RAM.
-fn ram_length(random: &mut Random, wrong: bool) -> usize {
+pub(super) fn ram_length(random: &mut Random, wrong: bool) -> usize {
     match wrong {
         true => random.pick(&[0, 1, 4, 256, 32_764, 32_767, 32_769, 32_772, 65_536]),
         false => RAM_SIZE,
@@ -114,7 +114,7 @@ fn ram_length(random: &mut Random, wrong: bool) -> usize {
 }
 
 /// The length of external data; the longest ones the first time only.
-fn external_length(random: &mut Random, wrong: bool, time: usize) -> usize {
+pub(super) fn external_length(random: &mut Random, wrong: bool, time: usize) -> usize {
     match (wrong, time) {
         (true, 0) => MOST + 256,
         (true, _) => random.pick(&[1, 3, 255, 257, 300, 511, 513, 65_535]),
@@ -123,22 +123,23 @@ fn external_length(random: &mut Random, wrong: bool, time: usize) -> usize {
     }
 }
 
-/// A record for [`good_page`] and so much external data.
-fn record(random: &mut Random, wrong: Wrong, external: usize) -> Record {
+/// A record for [`good_page`] and so much external data; what is wrong of it is told by
+/// the refusals' numbers.
+pub(super) fn record(random: &mut Random, wrong: impl Fn(u32) -> bool, external: usize) -> Record {
     let mut record = records::fit(random, external - external % 256);
-    match (wrong.has(41), wrong.has(42)) {
+    match (wrong(41), wrong(42)) {
         (false, false) => {}
         (true, false) => record.sp = random.pick(&records::SP_OUT),
         (false, true) => record.sp = random.pick(&records::SP_UNALIGNED),
         (true, true) => record.sp = random.pick(&records::SP_OUT_UNALIGNED),
     }
-    if wrong.has(43) {
+    if wrong(43) {
         record.base = Base::Ram(random.pick(&records::RAM_OUT));
     }
-    if wrong.has(44) {
+    if wrong(44) {
         record.base = Base::External(records::past_external(random, external));
     }
-    record.place = match wrong.has(5) {
+    record.place = match wrong(5) {
         true => random.pick(&[7, 120, 121, 124, 126, 127, 128, 250, 32_768, 65_535]),
         false => random.pick(&[0, 1, 2, 6, 8, 9, 118, 119]),
     };
@@ -146,7 +147,7 @@ fn record(random: &mut Random, wrong: Wrong, external: usize) -> Record {
 }
 
 /// The number of a profile; each unknown one by turns.
-fn profile(random: &mut Random, wrong: bool, time: usize) -> u32 {
+pub(super) fn profile(random: &mut Random, wrong: bool, time: usize) -> u32 {
     match wrong {
         true => UNKNOWN[time % UNKNOWN.len()],
         false => codes::either(random),
@@ -154,7 +155,7 @@ fn profile(random: &mut Random, wrong: bool, time: usize) -> u32 {
 }
 
 /// A window; each that is refused, and each at an edge of what is allowed, by turns.
-fn window(random: &mut Random, wrong: bool, time: usize) -> Window {
+pub(super) fn window(random: &mut Random, wrong: bool, time: usize) -> Window {
     match (wrong, time % 2) {
         (true, _) => REFUSED[time % REFUSED.len()],
         (false, 0) => ALLOWED[time / 2 % ALLOWED.len()],
@@ -181,7 +182,7 @@ fn together(
 }
 
 /// Where bytes are spoilt, by turns.
-fn spoilt(time: usize) -> &'static [u8] {
+pub(super) fn spoilt(time: usize) -> &'static [u8] {
     SPOILS[time % SPOILS.len()]
 }
 
@@ -195,7 +196,7 @@ pub(super) fn with_wrong(
 ) -> Same {
     let page = page(random, wrong.has(1));
     let length = external_length(random, wrong.has(3), time);
-    let mut record = stored_bytes(&record(random, wrong, length));
+    let mut record = stored_bytes(&record(random, |number| wrong.has(number), length));
     if wrong.has(NO_RECORD) {
         records::spoil(random, &mut record, spoilt(time));
     }

@@ -2,8 +2,10 @@
 
 use std::fmt::Debug;
 
+use super::image_sides::{Images, InImage};
 use super::short::Packed;
 use super::sides::{record_in, Given, Handed, Told};
+use crate::second::image::Platform;
 use crate::second::page::Code;
 use crate::second::record::Base;
 use crate::show;
@@ -22,20 +24,86 @@ pub fn runs(call: &str, handed: &Handed, sides: [(&Given, &[u8]); 2]) -> String 
 /// Two ends from one record and RAM that differ, by the names of what led to them.
 pub fn ends(names: [&str; 2], handed: &Handed, sides: [(&Given, &[u8]); 2]) -> String {
     let [(ours, our_ram), (theirs, their_ram)] = sides;
-    let unequal: Vec<String> = (0..)
-        .zip(our_ram.iter().zip(their_ram))
-        .filter(|(_, (ours, theirs))| ours != theirs)
-        .map(|(at, (ours, theirs))| format!("{at}: {ours:02X} {theirs:02X}"))
-        .collect();
     format!(
-        "{}{}: {}\n{}: {}\nRAM bytes that differ: {}\n{}\n",
+        "{}{}: {}\n{}: {}\nRAM {}\n",
         handed_over(handed, their_ram.len()),
         names[0],
         given(ours),
         names[1],
         given(theirs),
+        unequal(our_ram, their_ram),
+    )
+}
+
+/// The bytes in which two areas differ, the first of them shown.
+fn unequal(ours: &[u8], theirs: &[u8]) -> String {
+    let unequal: Vec<String> = (0..)
+        .zip(ours.iter().zip(theirs))
+        .filter(|(_, (ours, theirs))| ours != theirs)
+        .map(|(at, (ours, theirs))| format!("{at}: {ours:02X} {theirs:02X}"))
+        .collect();
+    format!(
+        "bytes that differ: {}\n{}",
         unequal.len(),
         unequal[..unequal.len().min(SHOWN)].join(", "),
+    )
+}
+
+/// A platform.
+pub fn platform(platform: Platform) -> String {
+    let Platform {
+        never_return: set,
+        profile,
+    } = platform;
+    format!("under the set {:016X} and profile {profile}", set.0)
+}
+
+/// A replacement.
+pub fn replacement(given: Platform, number: u32, page: &[u8]) -> String {
+    format!(
+        "image replace of page {number} {}\nby ({} bytes): {}",
+        platform(given),
+        page.len(),
+        show::page(page),
+    )
+}
+
+/// A difference of a call on an image and its index; the library's side comes first.
+pub fn images(call: &str, codes: [u32; 2], images: &Images) -> String {
+    let (library, second) = (&images.library, &images.second);
+    format!(
+        "{call}\nimage of {} bytes, index of {}\nlibrary: {}\nsecond program: {}\nimage {}\nindex {}\n",
+        second.bytes.len(),
+        second.index.len(),
+        codes[0],
+        codes[1],
+        unequal(&library.bytes, &second.bytes),
+        unequal(&library.index, &second.index),
+    )
+}
+
+/// A difference of a step or a run in an image; the library's side comes first.
+pub fn image_runs(
+    call: &str,
+    handed: &InImage,
+    images: &Images,
+    sides: [(&Given, &[u8]); 2],
+) -> String {
+    let stored = &images.second;
+    let page = stored.bytes.chunks(256).nth(handed.number as usize);
+    let alone = Code {
+        page: page.unwrap_or_default(),
+        never_return: handed.platform.never_return,
+        profile: handed.platform.profile,
+    };
+    let index = &stored.index[..stored.index.len().min(SHORT)];
+    format!(
+        "page {} of an image of {} bytes, index ({} bytes): {}\n{}",
+        handed.number,
+        stored.bytes.len(),
+        stored.index.len(),
+        show::bytes(index),
+        runs(call, &handed.on(alone), sides),
     )
 }
 

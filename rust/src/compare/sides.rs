@@ -109,7 +109,7 @@ pub struct Rams {
     pub second: Vec<u8>,
     /// What the library's run with budget 1 has in a step; after a run it is
     /// empty, and the next step copies it anew.
-    spare: Vec<u8>,
+    pub(super) spare: Vec<u8>,
 }
 
 impl Rams {
@@ -139,7 +139,7 @@ pub fn record_in(bytes: &[u8]) -> Option<Record> {
 }
 
 /// The second program's stop and steps in the library's numbers.
-fn numbers(stop: Stop, steps: u32) -> Numbers {
+pub(super) fn numbers(stop: Stop, steps: u32) -> Numbers {
     let (kind, value, literal) = match stop {
         Stop::Budget => (0, 0, 0),
         Stop::Service { low, literal: None } => (1, low, 0),
@@ -176,7 +176,7 @@ fn library_code(code: Code<'_>) -> (&[u8], u64, u32) {
 }
 
 /// A window as the library takes it.
-fn library_window(window: Window) -> marshbodkin::Window {
+pub(super) fn library_window(window: Window) -> marshbodkin::Window {
     marshbodkin::Window {
         start: window.start,
         end: window.end,

@@ -6,6 +6,8 @@ use std::fmt;
 use marshbodkin::raw::Answer as Numbers;
 
 use super::codes;
+use super::image_sides::{BUILD, REPLACE, RUN, STEP};
+use super::images_tally;
 use super::sets;
 use super::short_tally;
 use super::sides::{record_in, Given, Handed, Told, NO_RECORD};
@@ -34,7 +36,7 @@ pub const PAIRS: &str = "pairs of RAMs that differ outside a window";
 /// The call of a run that is made again with a larger budget.
 pub const LARGER: &str = "larger budget";
 /// The calls, each with what it can answer.
-const ANSWERS: [(&str, &[Told]); 11] = [
+const ANSWERS: [(&str, &[Told]); 15] = [
     ("count", &[Told::ACCEPTED, Told::plain(1), Told::plain(18)]),
     (
         "reader",
@@ -54,6 +56,10 @@ const ANSWERS: [(&str, &[Told]); 11] = [
     ("step", &OF_A_RUN),
     ("run", &OF_A_RUN),
     (LARGER, &OF_A_RUN),
+    (BUILD, &images_tally::OF_A_BUILD),
+    (REPLACE, &images_tally::OF_A_REPLACEMENT),
+    (STEP, &images_tally::OF_A_RUN),
+    (RUN, &images_tally::OF_A_RUN),
 ];
 /// 7 at every field that can fail.
 pub const OF_A_FORM: [Told; 7] = [
@@ -116,7 +122,7 @@ const OF_A_RUN: [Told; 15] = [
 /// The kinds of stop.
 pub const STOPS: [&str; 6] = ["budget", "service", "literal", "fault", MARK, "refused"];
 /// The kind that is never met.
-const MARK: &str = "mark";
+pub const MARK: &str = "mark";
 pub const FAULTS: [&str; 7] = ["1", "2", "3", "4", "5", "6", "7"];
 /// Those of loads and stores by r8 and r9, and the rest.
 const FAULTS_OF_BASES: [&str; 3] = ["1", "2", "3"];
@@ -195,6 +201,8 @@ const SMALL_DID: [&str; 7] = [
 pub struct Tally {
     calls: BTreeMap<(&'static str, Told), u64>,
     classes: BTreeMap<(&'static str, &'static str), u64>,
+    /// Two refusals of a call on an image at once, the one that was told first.
+    orders: BTreeMap<(&'static str, u32, u32), u64>,
 }
 
 impl Tally {
@@ -206,6 +214,13 @@ impl Tally {
     /// Counts one of a class.
     pub fn class(&mut self, group: &'static str, name: &'static str) {
         *self.classes.entry((group, name)).or_default() += 1;
+    }
+
+    /// Counts two refusals of a call at once, the one that was told first.
+    pub fn order(&mut self, call: &'static str, pair: Option<(u32, u32)>) {
+        if let Some((first, second)) = pair {
+            *self.orders.entry((call, first, second)).or_default() += 1;
+        }
     }
 
     /// Counts a step or a run by its stop, its set, its profile and its window.
@@ -300,8 +315,15 @@ impl Tally {
         let never = never.chain(FAULTS_OF_BASES.map(|name| (SMALL_FAULTS, name)));
         let never = never.chain(short_tally::NEVER);
         let never = never.chain(windows_tally::never());
+        let never = never.chain(images_tally::never());
         let met = never.filter(|&(group, name)| self.met(group, name) > 0);
         failures.extend(met.map(|(group, name)| format!("{group}: {name} was met")));
+        let orders = images_tally::orders().filter(|order| !self.orders.contains_key(order));
+        failures.extend(
+            orders.map(|(call, first, second)| {
+                format!("{call}: {first} before {second} was not met")
+            }),
+        );
         let amounts = [
             ("random steps", LEAST_STEPS),
             ("pages", LEAST_PAGES),
@@ -520,6 +542,7 @@ fn required() -> Vec<(&'static str, &'static str)> {
         .chain(short_tally::required())
         .chain(slices_tally::required())
         .chain(windows_tally::required())
+        .chain(images_tally::required())
         .collect()
 }
 
@@ -573,6 +596,8 @@ impl fmt::Display for Tally {
         for group in groups {
             writeln!(f, "{group}: {}", self.group(group))?;
         }
+        let orders = self.orders.len();
+        writeln!(f, "image calls with two refusals at once: {orders} pairs")?;
         Ok(())
     }
 }

@@ -119,21 +119,18 @@ pub fn count(page: Page) -> usize {
 }
 
 /// The same of so many bundles with such successors.
-pub fn greatest_closed(
-    bundles: usize,
-    successors: impl Fn(usize) -> Option<Vec<usize>> + Copy,
-) -> usize {
+pub fn greatest_closed(bundles: usize, successors: impl Fn(usize) -> Option<Vec<usize>>) -> usize {
+    let all: Vec<_> = (0..bundles).map(successors).collect();
     (0..=bundles)
         .rev()
-        .find(|&m| is_closed(m, successors))
+        .find(|&m| is_closed(&all[..m]))
         .unwrap_or(0)
 }
 
-/// True if the first `m` bundles are not bad and all lead below `m`.
-fn is_closed(m: usize, successors: impl Fn(usize) -> Option<Vec<usize>>) -> bool {
-    (0..m).all(|bundle| {
-        successors(bundle).is_some_and(|all| all.iter().all(|&successor| successor < m))
-    })
+/// True if bundles with these successors are not bad and all lead below their number.
+fn is_closed(prefix: &[Option<Vec<usize>>]) -> bool {
+    let below = |all: &Vec<usize>| all.iter().all(|&successor| successor < prefix.len());
+    prefix.iter().all(|all| all.as_ref().is_some_and(below))
 }
 
 /// The count with its refusals, 18 and 1; refused, it is 0.
@@ -152,10 +149,15 @@ pub fn starts_with_terminator(page: Page, bundle: usize) -> Option<bool> {
     Some(start.terminator)
 }
 
-/// 01's "Fit place": below the count, and an odd place needs a bundle of two
-/// 16-bit instructions whose first is no terminator.
+/// 01's "Fit place", by the page's count.
 pub fn is_fit_place(rules: Rules, page: Page, place: usize) -> bool {
+    is_fit_below((rules.count)(page), page, place)
+}
+
+/// The same by a count that is told: below it, and an odd place needs a bundle of two
+/// 16-bit instructions whose first is no terminator.
+pub fn is_fit_below(count: usize, page: Page, place: usize) -> bool {
     let bundle = place / 2;
-    bundle < (rules.count)(page)
+    bundle < count
         && (place.is_multiple_of(2) || starts_with_terminator(page, bundle) == Some(false))
 }

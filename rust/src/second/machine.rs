@@ -1,8 +1,8 @@
-//! Steps and runs, with their refusals, 18, 1 to 3, 20, 41 to 44 and 5, and the
-//! library's own 255, faults and stops.
+//! Steps and runs in a lone page, with their refusals, 18, 1 to 3, 20, 41 to 44 and 5, and
+//! the library's own 255, faults and stops.
 
 use super::arith::{add_with_carry, multiply, sdiv, shift_c, sign_extend, udiv, Shift};
-use super::count::{branch_target, is_fit_place};
+use super::count::{branch_target, is_fit_below};
 use super::decode::{opens_wide, BaseRegister, DataOp, Instruction, Operand, Register, Size};
 use super::memory::{is_external_length, ByBase, Fault, Memory, RAM_SIZE};
 use super::page::Page;
@@ -79,12 +79,7 @@ pub fn run_by(
         },
         Ok(page) => Machine {
             page,
-            memory: Memory {
-                ram,
-                external: setting.external,
-                window: setting.window,
-                rules: rules.memory,
-            },
+            memory: Memory::of(rules, setting.external, setting.window, ram),
             record: record.clone(),
             rules,
         }
@@ -102,21 +97,39 @@ pub fn run_bytes(
     bytes: &mut [u8],
     budget: u32,
 ) -> (Stop, u32) {
-    match given(rules, bytes) {
-        Ok(record) => {
-            let answer = run_by(rules, setting, ram, &record, budget);
+    let record = given(rules, bytes);
+    let call = Call {
+        rules,
+        setting,
+        ram: ram.len(),
+        record: record.as_ref().map_err(|&no_record| no_record),
+    };
+    let accepted = (rules.accept)(call);
+    let memory = Memory::of(rules, setting.external, setting.window, ram);
+    run_given(rules, accepted, memory, (&record, bytes), budget)
+}
+
+/// A run on the page that its refusals leave, from the record that bytes hold, if they
+/// hold one.
+pub(super) fn run_given(
+    rules: Rules,
+    accepted: Result<Page, Refusal>,
+    memory: Memory,
+    (record, bytes): (&Result<Record, Refusal>, &mut [u8]),
+    budget: u32,
+) -> (Stop, u32) {
+    match (accepted, record) {
+        (Err(refusal), _) | (_, &Err(refusal)) => (Stop::Refused(refusal), 0),
+        (Ok(page), Ok(record)) => {
+            let machine = Machine {
+                page,
+                memory,
+                record: record.clone(),
+                rules,
+            };
+            let answer = machine.run(budget);
             bytes.copy_from_slice(&stored_bytes(&answer.record));
             (answer.stop, answer.steps)
-        }
-        Err(no_record) => {
-            let call = Call {
-                rules,
-                setting,
-                ram: ram.len(),
-                record: Err(no_record),
-            };
-            let refusal = (rules.accept)(call).err().unwrap_or(no_record);
-            (Stop::Refused(refusal), 0)
         }
     }
 }
@@ -142,9 +155,20 @@ impl Call<'_> {
 
 /// All refusals of a step or a run, in order.
 pub fn accept(call: Call) -> Result<Page, Refusal> {
+    let rules = call.rules;
+    let page = (rules.run)(call.setting.code).map_err(Refusal::plain)?;
+    accept_beside(call, page, rules.count).map(|()| page)
+}
+
+/// Those that follow the page's own, by the page's count: 2, 3, 20, the library's 255, 41
+/// to 44, 5.
+pub(super) fn accept_beside(
+    call: Call,
+    page: Page,
+    count: impl FnOnce(Page) -> usize,
+) -> Result<(), Refusal> {
     let Call { rules, setting, .. } = call;
     let external = setting.external.len();
-    let page = (rules.run)(setting.code).map_err(Refusal::plain)?;
     if call.ram != RAM_SIZE {
         return Err(Refusal::plain(2));
     }
@@ -155,10 +179,10 @@ pub fn accept(call: Call) -> Result<Page, Refusal> {
         return Err(Refusal::plain(20));
     }
     let record = call.record?;
-    let place_is_fit = is_fit_place(rules, page, usize::from(record.place));
+    let place_is_fit = is_fit_below(count(page), page, usize::from(record.place));
     match (rules.unfit)(record, external, place_is_fit) {
         Some(number) => Err(Refusal::plain(number)),
-        None => Ok(page),
+        None => Ok(()),
     }
 }
 

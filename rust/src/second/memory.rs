@@ -170,6 +170,18 @@ pub struct Memory<'a> {
     pub rules: MemoryRules,
 }
 
+impl<'a> Memory<'a> {
+    /// What a run by some rules may access.
+    pub fn of(rules: Rules, external: &'a [u8], window: Window, ram: &'a mut [u8]) -> Self {
+        Memory {
+            ram,
+            external,
+            window,
+            rules: rules.memory,
+        }
+    }
+}
+
 impl Memory<'_> {
     /// Reads RAM. Nothing else does.
     fn read(&self, access: Access) -> Result<u32, Fault> {

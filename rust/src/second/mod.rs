@@ -1,11 +1,12 @@
 //! The second program: decoder, profiles, arithmetic, services, count, records and
-//! their two stored forms, settings with their windows, machine, text.
+//! their two stored forms, settings with their windows, machine, images, text.
 
 pub mod arith;
 pub mod count;
 pub mod decode;
 pub mod exits;
 pub mod groups;
+pub mod image;
 pub mod machine;
 pub mod memory;
 pub mod page;

@@ -4,6 +4,7 @@
 use super::arith::{condition_passed, Flags};
 use super::count::{count, read_bundle, Reading};
 use super::exits::{exit_of, Exit};
+use super::image::ImageRules;
 use super::machine::{accept, Call};
 use super::memory::{validate, MemoryRules};
 use super::page::{Code, NeverReturn, Page};
@@ -46,6 +47,8 @@ pub struct Rules {
     pub memory: MemoryRules,
     /// Those of the short stored form.
     pub short: ShortRules,
+    /// Those of images.
+    pub images: ImageRules,
 }
 
 impl Rules {
@@ -66,5 +69,6 @@ impl Rules {
         exit: exit_of,
         memory: MemoryRules::RIGHT,
         short: ShortRules::RIGHT,
+        images: ImageRules::RIGHT,
     };
 }

@@ -137,6 +137,79 @@ extern "C" {
         steps: *mut u32,
     ) -> u32;
 
+    /// Fills the index of an image, one byte a page, with the pages' counts.
+    pub fn mb_raw_image_build(
+        image: *const u8,
+        image_length: usize,
+        index: *mut u8,
+        index_length: usize,
+        never_return: u64,
+        profile: u32,
+    ) -> u32;
+
+    /// Puts a page of 256 bytes at a number, and its count into its byte of the index.
+    pub fn mb_raw_image_replace(
+        image: *mut u8,
+        image_length: usize,
+        index: *mut u8,
+        index_length: usize,
+        never_return: u64,
+        profile: u32,
+        number: u32,
+        page: *const u8,
+        page_length: usize,
+    ) -> u32;
+
+    /// Runs the record in the page of a number, as [`mb_raw_run`] does in a page alone,
+    /// where every byte of the index is its page's count.
+    pub fn mb_raw_image_run(
+        image: *const u8,
+        image_length: usize,
+        index: *const u8,
+        index_length: usize,
+        never_return: u64,
+        profile: u32,
+        number: u32,
+        ram: *mut u8,
+        ram_length: usize,
+        external: *const u8,
+        external_length: usize,
+        window_start: u32,
+        window_end: u32,
+        record: *mut u8,
+        record_length: usize,
+        budget: u32,
+        kind: *mut u32,
+        value: *mut u32,
+        literal: *mut u32,
+        position: *mut u32,
+        steps: *mut u32,
+    ) -> u32;
+
+    /// One step in the page of a number: a run with budget 1.
+    pub fn mb_raw_image_step(
+        image: *const u8,
+        image_length: usize,
+        index: *const u8,
+        index_length: usize,
+        never_return: u64,
+        profile: u32,
+        number: u32,
+        ram: *mut u8,
+        ram_length: usize,
+        external: *const u8,
+        external_length: usize,
+        window_start: u32,
+        window_end: u32,
+        record: *mut u8,
+        record_length: usize,
+        kind: *mut u32,
+        value: *mut u32,
+        literal: *mut u32,
+        position: *mut u32,
+        steps: *mut u32,
+    ) -> u32;
+
     /// What an exit asks of the host, by the low byte and the literal of a stop.
     pub fn mb_raw_exit(
         low: u32,

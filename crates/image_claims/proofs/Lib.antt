@@ -1,0 +1,9 @@
+pub mod Pages
+pub mod Replacements
+pub mod ImageCalls
+pub mod Admitted
+pub mod Machines
+pub mod Demand3
+pub mod StopAndGoOn
+pub mod Windows
+pub mod AsAlone

@@ -1,0 +1,4 @@
+pub mod ImageMachine
+pub mod AsAlone
+pub mod Replacements
+pub mod ImageCalls

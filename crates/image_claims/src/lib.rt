@@ -1,0 +1,1 @@
+// No code: what is claimed of images, and its proofs.

@@ -1,0 +1,6 @@
+pub mod HostCalls
+pub mod HostDemand3
+pub mod HostExits
+pub mod HostStopAndGoOn
+pub mod HostWindows
+pub mod HostImages

@@ -1,0 +1,2 @@
+pub mod HostImageRuns
+pub mod HostImages
