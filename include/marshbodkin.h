@@ -704,12 +704,11 @@ static inline mb_exit_parts mb_exit_of(const mb_stopped *stopped)
 
 /* ---- Words of a number; "unknown" if it has none. */
 
-/* Those of 1 are a page's; from mb_image_replace it says that the page isn't 256 bytes. */
 static inline const char *mb_refusal_words(uint32_t number)
 {
     switch (number) {
     case MB_ACCEPTED: return "accepted";
-    case MB_REFUSED_PAGE_LENGTH: return "page is above 256 bytes or no multiple of 4";
+    case MB_REFUSED_PAGE_LENGTH: return "page is above 256 bytes or no multiple of 4; for an image, not 256 bytes";
     case MB_REFUSED_RAM_LENGTH: return "RAM is not 32768 bytes";
     case MB_REFUSED_EXTERNAL_LENGTH: return "external data is above 16777216 bytes or no multiple of 256";
     case MB_REFUSED_UNFIT_PLACE: return "place is not fit";

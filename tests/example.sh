@@ -24,7 +24,7 @@ given() {
 }
 complains '.*missing' "$scratch/missing"
 complains ".*$scratch" "$scratch"
-given '\x00\xDF\x00' 'refused 1: page is above 256 bytes or no multiple of 4'
+given '\x00\xDF\x00' 'refused 1: page is above 256 bytes or no multiple of 4; for an image, not 256 bytes'
 given '\x01\x20\x00\xBF' 'refused 5: place is not fit' # 2001 BF00, of count 0
 given '\xE8\xDF\x00\xDF' 'not served: breakpoint' # DFE8 DF00
 given '\x82\xDF\x00\xDF' 'not served: direct syscall 2' # DF82 DF00

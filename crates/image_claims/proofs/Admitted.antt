@@ -117,11 +117,12 @@ module _ (x : InPage) where
       from-alone s (start .rec) (start .ram)
       (allowed-start (alone x) (allowed-alone a) start (subst (λ count. FitBy (alone x) count (start .rec) (start .ram)) (byte-is-count s) fit))
 
+  pub byte-counts : AllowedIn x → byteIn x ≡ countOf (programIn x)
+  byte-counts a = let s = allowed-sound a in byte-is-count s ∙ rw (program-allowed s)
+
   -- a series may start from the fresh record at any bundle below the index byte of the page, with any RAM of its size
   pub fresh-starts-in : AllowedIn x → (ram : List ℕ) → length ram ≡ 32768 → (k : ℕ) → k < byteIn x
       → FitStartIn x (record { rec = withPlace freshRecord (2 * k); ram = ram })
   fresh-starts-in a ram n k l =
-      let s = allowed-sound a in
-      let counted : countProgram (programIn x) .count ≡ countOf (programIn x) = rw (program-allowed s) in
-      subst (λ count. FitBy (alone x) count (withPlace freshRecord (2 * k)) ram) (sym (byte-is-count s))
-      (fresh-starts (alone x) (allowed-alone a) ram n k (omega (arith, byte-is-count s, counted)))
+      subst (λ count. FitBy (alone x) count (withPlace freshRecord (2 * k)) ram) (sym (byte-is-count (allowed-sound a)))
+      (fresh-starts (alone x) (allowed-alone a) ram n k (omega (arith, byte-counts a)))

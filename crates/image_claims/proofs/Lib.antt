@@ -7,3 +7,4 @@ pub mod Demand3
 pub mod StopAndGoOn
 pub mod Windows
 pub mod AsAlone
+pub mod ImageExamples

@@ -18,7 +18,9 @@ use Rattle.image.specs.Index.{countAt, countsIn, equalLists, buildDecision, ind
 use Rattle.image.proofs.Laws.{counts-length, count-among, true-equal}
 use Rattle.image.proofs.Theorems.{build-accepted, HasPage, replace-accepted}
 use Rattle.image_runs.specs.ImageRuns.{imageSettingOf, imageRunRules, imageDecision}
-use Rattle.image_claims.specs.Replacements.{Building, InARow, leftByAll, Replacements}
+use Rattle.series.specs.HandedOn.{InSeries, own, other}
+use Rattle.series.proofs.Theorems.{stays}
+use Rattle.image_claims.specs.Replacements.{Building, leftBy, leftByAll, HandedIn, InARow, Replacements}
 use Rattle.image_claims.proofs.Pages.{put-length, put-page, other-page}
 
 -- ---- one replacement that isn't refused
@@ -108,11 +110,23 @@ module _ (b : Building) (m : MeetsBuilding b) where
       go accepted e = rw (left-accepted c e) (still-fresh (b .handed c) (b .number c) (b .page c) (accepts c e) fresh)
       go (refused n values) e = rw (left-refused c n values e) fresh
 
-  all-fresh : (cs : List (b .Replace)) (image : Image) → image .index ≡ countsIn image → InARow b cs image
+  -- a refused one leaves what stands
+  refused-stays : (rowImage rowIndex : Bool) (c : b .Replace) (image : Image) → HandedIn b (other rowImage rowIndex c) image
+      → leftBy b (other rowImage rowIndex c) image ≡ image
+  refused-stays rowImage rowIndex c image h =
+      let same = left-refused c (h .0 .0) (h .0 .1) (h .0 .2) in
+      let bytes = stays rowImage (image .bytes) (b .left c .bytes) (λ t. ap (λ (x : Image). x .bytes) same ∙ h .1 t) in
+      let index = stays rowIndex (image .index) (b .left c .index) (λ t. ap (λ (x : Image). x .index) same ∙ h .2 t) in
+      λ i. record { bytes = bytes i; index = index i; neverReturn = image .neverReturn; profile = image .profile }
+
+  all-fresh : (cs : List (InSeries (b .Replace))) (image : Image) → image .index ≡ countsIn image → InARow b cs image
       → leftByAll b cs image .index ≡ countsIn (leftByAll b cs image)
   all-fresh [] image fresh h = fresh
-  all-fresh (c ∷ cs) image fresh h =
+  all-fresh (own c ∷ cs) image fresh h =
       all-fresh cs (b .left c) (keeps-fresh c (subst (λ (x : Image). x .index ≡ countsIn x) (sym (h .0)) fresh)) (h .1)
+  all-fresh (other rowImage rowIndex c ∷ cs) image fresh h =
+      all-fresh cs (leftBy b (other rowImage rowIndex c) image)
+      (subst (λ (x : Image). x .index ≡ countsIn x) (sym (refused-stays rowImage rowIndex c image (h .0))) fresh) (h .1)
 
   -- what each call changes, refused or not
   module _ (c : b .Replace) (q : ℕ) (apart : q ≡ b .number c → ⊥) where

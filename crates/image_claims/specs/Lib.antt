@@ -2,3 +2,4 @@ pub mod ImageMachine
 pub mod AsAlone
 pub mod Replacements
 pub mod ImageCalls
+pub mod ImageExamples

@@ -4,3 +4,4 @@ pub mod HostExits
 pub mod HostStopAndGoOn
 pub mod HostWindows
 pub mod HostImages
+pub mod HostAsAlone

@@ -1,10 +1,12 @@
 // Steps and runs in a page of an image. The page is run as a lone one is; what is refused goes by the image and its index.
 ghost use Prim.Native.Nat.{_<_};
+ghost use mathlib.Core.List.{[], _∷_};
 ghost use mathlib.Core.Path.{_≡_};
 ghost use lib.ListN.{length};
 ghost use Rattle.refusal.specs.Refusals.{decision, decisionOf};
 ghost use Rattle.platform.specs.Programs.{programOf, settingOf};
 ghost use Rattle.image.specs.Images.{imageOf, pagesIn, pageAt, programAt, byteOf};
+ghost use Rattle.image.specs.Index.{indexRule};
 ghost use Rattle.admission.specs.RunRefusals.{recordRules};
 ghost use Rattle.plain.specs.PlainMachine.{plain};
 ghost use Rattle.instruction.specs.Instructions.{instructionOf};
@@ -20,7 +22,18 @@ use window::Window;
 
 // ---- what is refused
 
-// The image has the page, every byte of its index is right, and what is lent beside it is allowed.
+// Every byte of the index is its page's count.
+fn of_index(image: &[u8], index: &[u8], platform: Platform) -> Verdict
+    ensures { λ v. ⌜ decisionOf v ≡ decision (indexRule (imageOf (now (image .entry)) (now (index .entry)) platform) ∷ []) ⌝ }
+{
+    if !image::holds_counts(image, index, platform) {
+        return Verdict::Refused(Refusal::WrongIndex);
+    }
+    Verdict::Accepted
+}
+
+// The image has the page, its index is right, and what is lent beside it is allowed. Pages are counted only if there is an index to hold
+// the counts against.
 pub fn of_areas(
     image: &[u8],
     index: &[u8],
@@ -35,10 +48,9 @@ pub fn of_areas(
     if let Verdict::Refused(why) = image::of_page(image, index, platform, number) {
         return Verdict::Refused(why);
     }
-    if !image::holds_counts(image, index, platform) {
-        return Verdict::Refused(Refusal::WrongIndex);
-    }
-    admission::of_lent(ram, external, window)
+    let counts = of_index(image, index, platform);
+    let lent = admission::of_lent(ram, external, window);
+    refusal::first_of(counts, lent)
 }
 
 // The record is fit, and so is its place, by the index byte of the page.

@@ -12,8 +12,7 @@ use Rattle.refusal.specs.Refusals.{Decision, accepted, refusalNumber, refusalVa
 use Rattle.refusal.specs.declared.Refusal.{Refusal}
 use Rattle.refusal.specs.declared.Verdict.{Verdict}
 use Rattle.refusal.specs.declared.Verdict.the-variants.{Accepted, Refused}
-use Rattle.page.specs.Page.{firstOf, secondOf}
-use Rattle.page.proofs.Theorems.{fitting}
+use Rattle.page.specs.Page.{pageFits, firstOf, secondOf}
 use Rattle.admission.specs.RunRefusals.{runDecision}
 use Rattle.admission.proofs.Theorems.{accepted-all}
 use Rattle.plain.specs.Calls.{callBy}
@@ -191,8 +190,7 @@ data-turn setting total steps r s ram operation c next result l i e n w h =
 
 -- ---- a call
 
--- a page that isn't refused is short
-pub accepted-short : (setting : Setting) (r : Record) (ram : List ℕ) (v : Verdict) → decisionOf v ≡ runDecision setting r ram → v ≡ Accepted
-    → length (setting .program .page) ≤ 256
-accepted-short setting r ram v e h =
-    fitting (setting .program .page) (program-accepted (setting .program) (accepted-all setting r ram (sym e ∙ ap decisionOf h) .0) .1) .0
+-- once a run is accepted, so is its page
+pub accepted-page : (setting : Setting) (r : Record) (ram : List ℕ) (v : Verdict) → decisionOf v ≡ runDecision setting r ram → v ≡ Accepted
+    → pageFits (setting .program .page) ≡ true
+accepted-page setting r ram v e h = program-accepted (setting .program) (accepted-all setting r ram (sym e ∙ ap decisionOf h) .0) .1

@@ -323,7 +323,7 @@ fn run_on(
     stopped(Stop::Budget, steps, r)
 }
 
-// A run of what was admitted by another table: the page's length alone is tested.
+// A run of what was admitted, by this table or another: the page's length alone is tested again.
 pub fn run_admitted(
     page: &[u8],
     platform: Platform,
@@ -360,7 +360,7 @@ pub fn run(
             steps: 0,
             after: r,
         },
-        Verdict::Accepted => run_on(page, platform, external, window, r, ram, budget),
+        Verdict::Accepted => run_admitted(page, platform, ram, external, window, r, budget),
     }
 }
 

@@ -381,6 +381,7 @@ pub extern "C" fn mb_raw_image_step(
     ensures { λ code. ⌜ answered code (now (kind .exit)) (now (value .exit)) (now (literal .exit)) (now (position .exit)) (now (steps .exit)) (now (bytes .exit)) (now (ram .exit))
         ≡ hostImageRun (imageSettingOf (imageOf (now (image .entry)) (now (index .entry)) (platformOf «never_return» profile)) (now (external .entry)) (windowOf «window_start» «window_end»)) number 1 (now (bytes .entry)) (now (ram .entry)) ⌝ }
 {
+    let budget = 1;
     mb_raw_image_run(
         image,
         index,
@@ -392,7 +393,7 @@ pub extern "C" fn mb_raw_image_step(
         window_start,
         window_end,
         bytes,
-        1,
+        budget,
         kind,
         value,
         literal,

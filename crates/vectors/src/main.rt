@@ -59,8 +59,12 @@ fn refusals() {
     show_refusal(Refusal::NoSuchBundle);
     show_refusal(Refusal::NotGrouped);
     show_refusal(Refusal::RoomTooSmall);
+    show_refusal(Refusal::ImageLength);
+    show_refusal(Refusal::NoSuchPage);
+    show_refusal(Refusal::IndexLength);
     show_refusal(Refusal::UnknownProfile);
     show_refusal(Refusal::WindowBounds);
+    show_refusal(Refusal::WrongIndex);
     show_refusal(Refusal::SpBounds);
     show_refusal(Refusal::SpAlignment);
     show_refusal(Refusal::RamOffset);

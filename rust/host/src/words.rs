@@ -5,12 +5,11 @@ use crate::{AT_BASE_KIND, AT_BASE_OFFSET, AT_FLAGS, AT_PLACE, AT_R0, AT_SP};
 /// What is said of a number that has no words.
 const UNKNOWN: &str = "unknown";
 
-/// The words of what a call answers. Those of 1 are a page's; from
-/// [`Image::replace`](crate::Image::replace) it says that the page isn't 256 bytes.
+/// The words of what a call answers.
 pub fn refusal(number: u32) -> &'static str {
     match number {
         0 => "accepted",
-        1 => "page is above 256 bytes or no multiple of 4",
+        1 => "page is above 256 bytes or no multiple of 4; for an image, not 256 bytes",
         2 => "RAM is not 32768 bytes",
         3 => "external data is above 16777216 bytes or no multiple of 256",
         5 => "place is not fit",

@@ -1,8 +1,6 @@
-use mathlib.Core.List.{_∷_}
-use mathlib.Core.Path.{sym, _∙_}
-use borrow.Author.Tests.{not-true, not-false}
+use mathlib.Core.List.{[], _∷_}
 use borrow.Author.Needs.{needs}
-use Rattle.refusal.proofs.Theorems.{after}
+use Rattle.refusal.proofs.Theorems.{after, joined}
 use Rattle.image.specs.Images.{imageOf, imageRules}
 use Rattle.image.specs.Index.{indexRule}
 use Rattle.admission.specs.RunRefusals.{lentRules}
@@ -17,15 +15,10 @@ returns c =
 
 returns-2 : tie.Need-returns-2
 returns-2 c =
-    let s = c .before .before .before .before .before .before .before .before .before .args in
-    let image = imageOf (s .image .now) (s .index .now) (s .platform) in
-    rw (after (imageRules image (s .number)) (indexRule image ∷ lentRules (s .external .now) (s .window) (s .ram .now)) _ (c .before .before .before .before .of-page .ensures), c .before .before .enum-told .given .1, sym (c .before .holds-counts .ensures) ∙ not-true _ (c .if1 .taken))
-
-returns-3 : tie.Need-returns-3
-returns-3 c =
     let s = c .before .before .before .before .before .before .before .before .before .before .args in
     let image = imageOf (s .image .now) (s .index .now) (s .platform) in
-    rw (after (imageRules image (s .number)) (indexRule image ∷ lentRules (s .external .now) (s .window) (s .ram .now)) _ (c .before .before .before .before .before .of-page .ensures), c .before .before .before .enum-told .given .1, sym (c .before .before .holds-counts .ensures) ∙ not-false _ (c .before .if1 .left)) (c .of-lent .ensures)
+    rw (after (imageRules image (s .number)) (indexRule image ∷ lentRules (s .external .now) (s .window) (s .ram .now)) _ (c .before .before .before .before .before .of-page .ensures), c .before .before .before .enum-told .given .1)
+    (joined (indexRule image ∷ []) (lentRules (s .external .now) (s .window) (s .ram .now)) _ _ _ (c .first-of .ensures) (c .before .before .of-index .ensures) (c .before .of-lent .ensures))
 
 pub of-areas-spec : {M : Type 1} → statement M
-of-areas-spec = tie.close (tie.spec (λ c κs. tt) (λ c. search needs) returns (λ c. search needs) (λ c κs. tt) returns-2 (λ c κs. tt) returns-3)
+of-areas-spec = tie.close (tie.spec (λ c κs. tt) (λ c. search needs) returns (λ c. search needs) (λ c κs. tt) (λ c κs. tt) (λ c κs. tt) returns-2)
