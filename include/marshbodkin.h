@@ -1,7 +1,7 @@
 /* Marshbodkin for a host in C99 or C++11. Link with libmarshbodkin.a.
  *
- * docs/MACHINE.md is the machine. "01" is the build paper, whose words and
- * numbers are used there and here.
+ * docs/MACHINE.md is the machine. "01" is the build paper and "02" that of the
+ * change requests; their words and numbers are used there and here.
  *
  * What a call that can be refused answers: 0 (accepted) or the number of a
  * refusal, one of "Answers" below. The rest it writes into what it is lent for
@@ -24,9 +24,10 @@
  * - it calls nothing outside itself, not even the C library;
  * - it is for x86-64 with the System V calling convention.
  *
- * In a series of steps and runs, hand each call the same setting, and the record
- * and RAM exactly as the call before left them: what is proved of a series is
- * proved of such. A record or a setting that the host changes starts a new series.
+ * In a series of steps and runs, hand each call the same setting, in an image the
+ * same page number, and record and RAM exactly as the call before left them: what is
+ * proved of a series is proved of such. A record, a setting or a page number that the
+ * host changes, or a page that it replaces, starts a new series.
  */
 #ifndef MARSHBODKIN_H
 #define MARSHBODKIN_H
@@ -69,7 +70,7 @@ enum {
     MB_IMAGE_PAGES_MOST = 4096,  /* pages of an image, and at least one */
     MB_EXTERNAL_PAGE_BYTES = 256,
     MB_EXTERNAL_MOST = 16777216, /* and whole external pages */
-    MB_STACK_BYTES = 1536        /* the most that a call of the archive takes */
+    MB_STACK_BYTES = 2048        /* the most that a call of the archive takes */
 };
 
 /* Where RAM and external data begin, as addresses. */
@@ -297,11 +298,11 @@ typedef struct {
     uint32_t window_start, window_end;
 } mb_setting;
 
-/* Filters of many pages, and beside them an index of one byte a page, its count. By
- * mb_image_of, after which the host may set never_return and profile, as in an
- * mb_program: before mb_image_build, since the index is right only under the set and
- * the profile that it was built with, and before mb_image_setting_of, which copies the
- * struct, though not the bytes. */
+/* An image, as 02 calls a filter of many pages: its pages, and beside them what 02 calls
+ * the index, one byte a page, its count. By mb_image_of, after which the host may set
+ * never_return and profile, as in an mb_program: before mb_image_build, since the index is
+ * right only under the set and the profile that it was built with, and before
+ * mb_image_setting_of, which copies the struct, though not the bytes. */
 typedef struct {
     uint8_t *image; /* 1 to MB_IMAGE_PAGES_MOST pages of MB_IMAGE_PAGE_BYTES, one after the other */
     size_t image_length; /* in bytes */
@@ -641,8 +642,8 @@ static inline uint32_t mb_image_build(const mb_image *image)
 /* Puts a page of MB_IMAGE_PAGE_BYTES bytes in the place of the page with that number,
  * from 0, and its count into the byte of that page; nothing else changes. So an index
  * that is right stays right, without being built anew; the other bytes of one that isn't
- * stay wrong. The page given may not lie in the image. Refused (18, 12, 13, 14, and 1
- * where the page isn't MB_IMAGE_PAGE_BYTES): image and index stay. */
+ * stay wrong. The page given must not lie in the image or the index. Refused (18, 12, 13,
+ * 14, and 1 where the page isn't MB_IMAGE_PAGE_BYTES): image and index stay. */
 static inline uint32_t mb_image_replace(const mb_image *image, uint32_t number, const uint8_t *page, size_t page_length)
 {
     uint8_t own[3] = {0, 0, 0};

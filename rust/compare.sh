@@ -60,12 +60,12 @@ broken unpacking padded-group six-groups unknown-without-offset sp-one-below byt
 broken syscalls lt-from-n
 broken exits imm15-unshifted
 broken slices budget-cut
-broken images byte-of-page-before own-byte-alone own-byte-unchecked first-byte-unchecked last-byte-unchecked \
+broken images byte-of-page-before run-of-page-before own-byte-alone own-byte-unchecked first-byte-unchecked last-byte-unchecked \
     byte-above-accepted count-under-empty-set count-under-profile-0 index-from-the-end \
     image-cut longer-index number-cut page-of-252 \
     refused-page-written refused-byte-written replaced-one-behind replaced-and-built
 broken image-refusals build-12-before-18 build-14-before-12 \
     replace-12-before-18 replace-13-before-12 replace-14-before-13 replace-1-before-14 replace-1-first \
     run-12-before-18 run-13-before-12 run-14-before-13 run-21-before-14 run-2-before-21 \
-    pages-4097 no-page
+    pages-4097 no-page refused-index-written
 echo "deliberate mistakes found"

@@ -344,6 +344,7 @@ fn an_index_that_is_not_fresh_is_found() {
 fn the_parts_find_mistakes_by_themselves() {
     let of_images = [
         "byte-of-page-before",
+        "run-of-page-before",
         "own-byte-alone",
         "own-byte-unchecked",
         "first-byte-unchecked",
@@ -377,6 +378,7 @@ fn the_parts_find_mistakes_by_themselves() {
         "run-2-before-21",
         "pages-4097",
         "no-page",
+        "refused-index-written",
     ];
     parts::check_finds(image_refusals::compare, &of_refusals);
 }

@@ -1,5 +1,5 @@
 -- What holds of every count.
-use Prim.Native.Nat.{ℕ, _≤_}
+use Prim.Native.Nat.{_≤_}
 use native.Mathlib.Omega.{arith}
 use mathlib.Core.Path.{_≡_, refl}
 use Rattle.refusal.specs.Refusals.{Decision, accepted, refused, decision, whenAccepted}

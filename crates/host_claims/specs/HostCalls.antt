@@ -4,12 +4,12 @@ use borrow.Fn.World.{ArgsD, ResD}
 use borrow.Fn.Kinds.{endedOf}
 use denote.Triple.Clauses.{AtExit}
 use denote.Ref.{now}
-use Rattle.refusal.specs.Refusals.{decision}
 use Rattle.window.specs.Windows.{windowOf}
 use Rattle.platform.specs.Platforms.{platformOf}
 use Rattle.platform.specs.Programs.{Setting, programOf, settingOf}
 use Rattle.claims.specs.Demand3.{lonePage}
-use Rattle.hosting.specs.HostRuns.{Crossed, answered, noRecordRules}
+use Rattle.admission.specs.RunRefusals.{areaRules}
+use Rattle.hosting.specs.Crossed.{Crossed, answered}
 use Rattle.host_series.specs.Host.{Lent, Bytes, Host}
 use Rattle.marshbodkin.proofs.mb_raw_run as mb_raw_run
 use Rattle.marshbodkin.proofs.mb_raw_run.Kinds as run-kinds
@@ -67,7 +67,7 @@ crossedBy (ofStep κs a x s bytes contract) =
 abbrev pub loneHost : Host
 loneHost = record {
   kind = lonePage;
-  noRecord = λ setting bytes ram. decision (noRecordRules setting bytes ram);
+  areas = areaRules;
   Call = HostCall;
   lent = lentTo;
   crossed = crossedBy;

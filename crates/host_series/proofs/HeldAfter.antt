@@ -8,14 +8,10 @@ use lib.Dec.{eqb, ltb, leb}
 use lib.ListN.{length, getD, take}
 use borrow.Author.Tests.{ltb-true, leb-true}
 use Rattle.laws.proofs.Tests.{both}
-use Rattle.refusal.specs.Refusals.{accepted, decision}
-use Rattle.page.specs.Page.{bundlesIn}
-use Rattle.page.proofs.Theorems.{fitting}
-use Rattle.platform.specs.Programs.{Program, programRules, Setting}
-use Rattle.platform.proofs.Theorems.{program-accepted}
-use Rattle.prefix.proofs.Theorems.{definition}
-use Rattle.bundle.specs.Successors.{successorsOf}
-use Rattle.count.specs.Count.{countOf, countProgram}
+use Rattle.refusal.specs.Refusals.{accepted}
+use Rattle.platform.specs.Programs.{Program, Setting}
+use Rattle.count.specs.Count.{countProgram}
+use Rattle.count.proofs.Theorems.{at-most}
 use Rattle.state.specs.FitRecord.{spFits, baseFits, fitRecord}
 use Rattle.state.specs.Record.{offsetOf}
 use Rattle.state.specs.Validation.{externalFits}
@@ -81,26 +77,23 @@ external-below : (external : ℕ) → externalFits external ≡ true → externa
 unfolding externalFits
 external-below external h = omega (arith, leb-true external 16777216 (both (leb external 16777216) (eqb (external % 256) 0) h .0))
 
-place-below : (program : Program) (place : ℕ) → decision (programRules program) ≡ accepted → fitPlace program place ≡ true → place < 2 ^ 16
+place-below : (program : Program) (place : ℕ) → fitPlace program place ≡ true → place < 2 ^ 16
 unfolding fitBelow
-place-below program place p h =
-    let counted : countProgram program .count ≡ countOf program = rw p in
-    let bundles = fitting (program .page) (program-accepted program p .1) in
-    let below = ltb-true (place / 2) (countProgram program .count) (both (ltb (place / 2) (countProgram program .count)) _ h .0) in
-    omega (arith, below, counted, definition (successorsOf program) (bundlesIn (program .page)) .inside, bundles)
+place-below program place h =
+    let count = countProgram program .count in
+    omega (arith, ltb-true (place / 2) count (both (ltb (place / 2) count) _ h .0), at-most program)
 
-fit-held : (setting : Setting) (r : Record) (ram : List ℕ) → decision (programRules (setting .program)) ≡ accepted
-    → externalFits (length (setting .external)) ≡ true
-    → Fit setting r ram → Words r ram → Held r
+fit-held : (setting : Setting) (r : Record) (ram : List ℕ) → externalFits (length (setting .external)) ≡ true → Fit setting r ram → Words r ram
+    → Held r
 unfolding fitRecord
-fit-held setting r ram p e f w =
+fit-held setting r ram e f w =
     let parts = both (spFits (r .sp)) (baseFits (r .base) (length (setting .external))) (f .recordFits) in
     record {
       eight = w .eight;
       words = w .words;
       sp = sp-below (r .sp) (parts .0);
       offset = base-below (r .base) (length (setting .external)) (external-below (length (setting .external)) e) (parts .1);
-      place = place-below (setting .program) (r .place) p (f .placeFits);
+      place = place-below (setting .program) (r .place) (f .placeFits);
     }
 
 -- ---- a run
@@ -110,6 +103,6 @@ pub held-after : (setting : Setting) → Bytes (setting .program .page) → Byte
     → runDecision setting r ram ≡ accepted → Held r → Bytes ram → Held (plain (instructionOf setting) total 0 r ram .rec)
 held-after setting p e total r ram q h m =
     let after = admitted-allowed setting _ _ (admits-after (machine setting) (code-keeps setting) total r ram q) in
-    fit-held setting _ _ (after .programAllowed) (after .dataAllowed) (after .fits)
+    fit-held setting _ _ (after .dataAllowed) (after .fits)
     (run-keeps (instructionOf setting) Words (λ s after w. words-kept setting p e s after w)
     total 0 r ram (record { eight = h .eight; words = h .words; bytes = m }))

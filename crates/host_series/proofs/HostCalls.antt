@@ -13,7 +13,7 @@ use Rattle.layout.proofs.Theorems.{record-holds, record-kept}
 use Rattle.series.specs.Machine.{Handed, calledBy}
 use Rattle.series.proofs.Keeps.{KeepsAdmitted, KeepsAll, keeps-admitted}
 use Rattle.series.proofs.Windows.{WithinWindow}
-use Rattle.hosting.specs.HostRuns.{Crossed, crossing, hostCall}
+use Rattle.hosting.specs.Crossed.{Crossed, crossing, hostCall}
 use Rattle.host_series.specs.Host.{Lent, Bytes, Host}
 use Rattle.host_series.specs.HostSeries.{RecordCall, handedRecord, gaveRecord, hostMachine, KeepsBytes}
 use Rattle.host_series.proofs.HeldAfter.{record-held}
@@ -22,7 +22,7 @@ use Rattle.host_series.proofs.Refused.{NoValues, valuesIn, call-no-valu
 -- what comes back, by the contract, of what is lent
 abbrev pub crossedFrom : (host : Host) → Lent (host .kind .Setting) → Crossed
 crossedFrom host l =
-    hostCall (host .noRecord (l .setting) (l .bytes) (l .ram))
+    hostCall (host .areas (l .setting) (l .ram))
     (λ r. calledBy (host .kind) (record { setting = l .setting; budget = l .budget; rec = r; ram = l .ram })) (l .bytes) (l .ram)
 
 pub record MeetsHost (host : Host) : Type 0 where
@@ -31,9 +31,8 @@ pub record MeetsHost (host : Host) : Type 0 where
   pub within : WithinWindow (host .kind)
   -- no refusal carries a value
   pub no-values : (setting : host .kind .Setting) (r : Record) (ram : List ℕ) → valuesIn (host .kind .decision setting r ram) ≡ []
-  -- the answer for bytes that hold no record doesn't look at RAM's bytes
-  pub by-length : (setting : host .kind .Setting) (bytes a b : List ℕ) → length a ≡ length b
-      → host .noRecord setting bytes a ≡ host .noRecord setting bytes b
+  -- what is refused before the record doesn't look at RAM's bytes
+  pub by-length : (setting : host .kind .Setting) (a b : List ℕ) → length a ≡ length b → host .areas setting a ≡ host .areas setting b
   -- a call meets its contract
   pub meets : (c : host .Call) → host .crossed c ≡ crossedFrom host (host .lent c)
   -- what it is lent of a record is bytes

@@ -3,7 +3,7 @@ use mathlib.Core.Bool.{false}
 use mathlib.Core.Path.{_≡_, sym, ap, _∙_}
 use Rattle.layout.specs.StoredForm.{holdsRecord}
 use Rattle.series.proofs.StopAndGoOn.{stop-and-go-on}
-use Rattle.hosting.specs.HostRuns.{crossing}
+use Rattle.hosting.specs.Crossed.{crossing}
 use Rattle.host_series.specs.Host.{Host}
 use Rattle.host_series.specs.HostSeries.{ByteState, hostMachine, lentState}
 use Rattle.host_series.specs.HostStopAndGoOn.{HostStopAndGoOn}

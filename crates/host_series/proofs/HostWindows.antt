@@ -12,7 +12,8 @@ use Rattle.series.specs.Machine.{calledBy}
 use Rattle.series.specs.Windows.{ramAlone}
 use Rattle.series.proofs.Windows.{rams-stay, called-outside, called-equal, keeps-to-window}
 use Rattle.crossing.specs.Numbers.{refusedWith, stopNumbers}
-use Rattle.hosting.specs.HostRuns.{Crossed, crossing}
+use Rattle.refusal.specs.Refusals.{decision}
+use Rattle.hosting.specs.Crossed.{Crossed, crossing, noRecordRules}
 use Rattle.host_series.specs.Host.{Host}
 use Rattle.host_series.specs.HostSeries.{RecordCall, handedRecord, gaveRecord, RefusesHost}
 use Rattle.host_series.specs.HostWindows.{EqualCrossed, windowLent, HostWindows}
@@ -53,11 +54,16 @@ module _ (host : Host) (m : MeetsHost host) where
       ran = called-equal (host .kind) (m .within) setting total (recordIn bytes) a b e
 
       none : List ℕ → Crossed
-      none ram = record { stop = refusedWith (host .noRecord setting bytes ram); steps = 0; bytes = bytes; ram = ram }
+      none ram = record { stop = refusedWith (decision (noRecordRules (host .areas setting ram) bytes)); steps = 0; bytes = bytes; ram = ram }
 
       go : (t : Bool) → EqualCrossed (host .kind .window setting) (cond t (crossing (run a)) (none a)) (cond t (crossing (run b)) (none b))
       go true = record { stop = ap stopNumbers (ran .stop); steps = ran .steps; bytes = ap recordBytes (ran .rec); ram = ran .ram }
-      go false = record { stop = ap refusedWith (m .by-length setting bytes a b (e .0)); steps = refl; bytes = refl; ram = e }
+      go false = record {
+        stop = ap (λ areas. refusedWith (decision (noRecordRules areas bytes))) (m .by-length setting a b (e .0));
+        steps = refl;
+        bytes = refl;
+        ram = e;
+      }
 
   calls-equal : (c d : host .Call) → host .lent c .setting ≡ host .lent d .setting → host .lent c .budget ≡ host .lent d .budget
       → host .lent c .bytes ≡ host .lent d .bytes → EqualInside (windowLent host c) (host .lent c .ram) (host .lent d .ram)

@@ -1,9 +1,9 @@
 -- A stop whose refusal, if it is one, carries no value: its numbers say all of it.
 use Prim.Native.Nat.{ℕ, zero, suc, _+_}
-use mathlib.Core.Bool.{true, false}
-use mathlib.Core.List.{List, [], _∷_}
+use mathlib.Core.List.{List, []}
 use mathlib.Core.Path.{_≡_, refl, sym, ap}
-use Rattle.refusal.specs.Refusals.{Decision, accepted, refused, Rule, rule, decision}
+use Rattle.refusal.specs.Refusals.{Decision, accepted, refused, Rule, decision}
+use Rattle.refusal.proofs.Theorems.{Lines, refusing-line}
 use Rattle.state.specs.declared.Record.{Record}
 use Rattle.stop.specs.Stops.{direct, byLiteral, Reason, budget, service, fault, unlisted}
 use Rattle.stop.specs.Stops as stops
@@ -46,15 +46,13 @@ pub call-no-values : (d : Decision) → valuesIn d ≡ [] → (instruction : Rec
 call-no-values accepted e instruction total r ram = plain-no-values instruction total 0 r ram
 call-no-values (refused n values) e instruction total r ram = e
 
--- the lines of a table carry none
-abbrev pub Bare : List Rule → Type 0
-Bare [] = Unit {0}
-Bare (rule test n values ∷ rules) = (values ≡ []) × Bare rules
-
-pub bare-refusal : (rules : List Rule) → Bare rules → valuesIn (decision rules) ≡ []
-bare-refusal [] h = refl
-bare-refusal (rule true n values ∷ rules) h = h .0
-bare-refusal (rule false n values ∷ rules) h = bare-refusal rules (h .1)
+-- nor does a decision where no line of its table carries any
+pub bare-refusal : (rules : List Rule) → Lines (λ test n values. values ≡ []) rules → valuesIn (decision rules) ≡ []
+bare-refusal rules h = go (decision rules) refl
+  where
+    go : (d : Decision) → decision rules ≡ d → valuesIn d ≡ []
+    go accepted e = refl
+    go (refused n values) e = refusing-line (λ test k carried. carried ≡ []) rules h n values e
 
 -- ---- a stop
 

@@ -2,12 +2,12 @@
 use Prim.Native.Nat.{ℕ, _<_}
 use mathlib.Core.List.{List, [], _∷_}
 use lib.ListN.{getD}
-use Rattle.refusal.specs.Refusals.{Decision}
+use Rattle.refusal.specs.Refusals.{Rule}
 use Rattle.stop.specs.Stops.{direct, byLiteral, Reason, budget, service, fault, unlisted, refused}
 use Rattle.plain.specs.PlainMachine.{Result}
 use Rattle.layout.specs.StoredForm.{recordIn}
 use Rattle.series.specs.Machine.{Kind}
-use Rattle.hosting.specs.HostRuns.{Crossed}
+use Rattle.hosting.specs.Crossed.{Crossed}
 
 -- what a call is lent, and its budget; a record crosses as its bytes
 pub record Lent (Setting : Type 0) : Type 0 where
@@ -23,8 +23,8 @@ Bytes xs = (k : ℕ) → getD xs k 0 < 256
 -- a host's calls, over a kind of machine: what each was lent, and what came back
 pub record Host : Type 1 where
   pub kind : Kind
-  -- what a call answers whose bytes hold no record
-  pub noRecord : kind .Setting → List ℕ → List ℕ → Decision
+  -- what is refused before the record is looked at
+  pub areas : kind .Setting → List ℕ → List Rule
   pub Call : Type 0
   pub lent : Call → Lent (kind .Setting)
   pub crossed : Call → Crossed

@@ -10,7 +10,9 @@ use Rattle.series.specs.HandedOn.{Standing, InSeries, own, other, callIn, leftB
 use Rattle.series.specs.Machine.{Handed, Machine, machineOf, Refuses}
 use Rattle.series.specs.Series.{State, fed, plainState}
 use Rattle.series.specs.Demand3.{Demand3}
+use Rattle.refusal.specs.Refusals.{decision}
 use Rattle.crossing.specs.Numbers.{refusedWith}
+use Rattle.hosting.specs.Crossed.{noRecordRules}
 use Rattle.host_series.specs.Host.{Host, resultIn}
 
 -- what stands between two calls, by the bytes that are handed on
@@ -72,10 +74,10 @@ module _ (host : Host) where
 
   -- ---- the claim
 
-  -- a call whose bytes hold none is refused by the answer for such bytes, and changes no byte
+  -- a call whose bytes hold none is refused by what stands before the record, or by 255 with the position, and changes no byte
   abbrev pub KeepsBytes : host .Call → Type 0
   KeepsBytes c = host .crossed c ≡ record {
-    stop = refusedWith (host .noRecord (host .lent c .setting) (host .lent c .bytes) (host .lent c .ram));
+    stop = refusedWith (decision (noRecordRules (host .areas (host .lent c .setting) (host .lent c .ram)) (host .lent c .bytes)));
     steps = 0;
     bytes = host .lent c .bytes;
     ram = host .lent c .ram;

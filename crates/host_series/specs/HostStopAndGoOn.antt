@@ -3,7 +3,7 @@ use mathlib.Core.Bool.{true, false}
 use mathlib.Core.Path.{_≡_}
 use Rattle.layout.specs.StoredForm.{holdsRecord}
 use Rattle.series.specs.StopAndGoOn.{StopAndGoOn}
-use Rattle.hosting.specs.HostRuns.{crossing}
+use Rattle.hosting.specs.Crossed.{crossing}
 use Rattle.host_series.specs.Host.{Host}
 use Rattle.host_series.specs.HostSeries.{RecordCall, gaveRecord, hostMachine, lentState}
 

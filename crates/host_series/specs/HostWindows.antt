@@ -3,7 +3,7 @@ use mathlib.Core.Path.{_≡_}
 use Rattle.window.specs.Windows.{EqualInside}
 use Rattle.window.specs.declared.Window.{Window}
 use Rattle.series.specs.Windows.{OutsideStays, KeepsToWindow}
-use Rattle.hosting.specs.HostRuns.{Crossed}
+use Rattle.hosting.specs.Crossed.{Crossed}
 use Rattle.host_series.specs.Host.{Host}
 use Rattle.host_series.specs.HostSeries.{hostMachine, RefusesHost}
 

@@ -1,7 +1,7 @@
 -- The turns of the loops over an index, and what a page is of an image.
 use Prim.Native.Nat.{ℕ, zero, suc, _+_, _-_, _*_, _<_, _≤_}
 use native.Mathlib.Omega.{arith}
-use mathlib.Core.Bool.{Bool, true, false, _&&_, true≢false}
+use mathlib.Core.Bool.{Bool, true, false, true≢false}
 use mathlib.Core.List.{List, [], _∷_, _++_}
 use mathlib.Core.Path.{_≡_, refl, sym, ap, _∙_}
 use lib.Dec.{eqb}
@@ -14,16 +14,16 @@ use Rattle.image.specs.Index.{countAt, eachFrom, countsIn, equalLists}
 
 -- ---- counts
 
-each-length : (number : ℕ → ℕ) (p n : ℕ) → length (eachFrom number p n) ≡ n
-each-length number p zero = refl
-each-length number p (suc n) = ap suc (each-length number (p + 1) n)
+each-length : (f : ℕ → ℕ) (p n : ℕ) → length (eachFrom f p n) ≡ n
+each-length f p zero = refl
+each-length f p (suc n) = ap suc (each-length f (p + 1) n)
 
-each-among : (number : ℕ → ℕ) (p n k : ℕ) → k < n → getD (eachFrom number p n) k 0 ≡ number (p + k)
-each-among number p zero k l = absurd (omega arith)
-each-among number p (suc n) zero l = let here : p ≡ p + 0 = omega arith in ap number here
-each-among number p (suc n) (suc k) l =
+each-among : (f : ℕ → ℕ) (p n k : ℕ) → k < n → getD (eachFrom f p n) k 0 ≡ f (p + k)
+each-among f p zero k l = absurd (omega arith)
+each-among f p (suc n) zero l = let here : p ≡ p + 0 = omega arith in ap f here
+each-among f p (suc n) (suc k) l =
     let next : p + 1 + k ≡ p + suc k = omega arith in
-    each-among number (p + 1) n k (omega arith) ∙ ap number next
+    each-among f (p + 1) n k (omega arith) ∙ ap f next
 
 pub counts-length : (image : Image) → length (countsIn image) ≡ pagesIn (image .bytes)
 counts-length image = each-length (countAt image) 0 (pagesIn (image .bytes))

@@ -1,15 +1,15 @@
 -- What is known of an image that isn't refused.
 use Prim.Native.Nat.{ℕ, _<_}
-use mathlib.Core.Bool.{true}
-use mathlib.Core.List.{List, [], _∷_}
+use mathlib.Core.Bool.{true, not, cond}
+use mathlib.Core.List.{List, []}
 use mathlib.Core.Path.{_≡_}
 use lib.Dec.{eqb, ltb}
 use lib.ListN.{length}
 use borrow.Author.Tests.{eqb-true, ltb-true}
-use Rattle.refusal.specs.Refusals.{accepted, decision}
-use Rattle.refusal.proofs.Theorems.{passes, all-accepted}
+use Rattle.refusal.specs.Refusals.{Decision, accepted, refused}
+use Rattle.refusal.proofs.Theorems.{passes}
 use Rattle.isa.specs.Profiles.{isKnown}
-use Rattle.image.specs.Images.{Image, imageFits, pagesIn, imageRules, wholePageRule}
+use Rattle.image.specs.Images.{Image, imageFits, pagesIn}
 use Rattle.image.specs.Index.{buildDecision, replaceDecision}
 
 -- its index is as long as it has to be
@@ -26,20 +26,26 @@ pub record HasPage (image : Image) (p : ℕ) : Type 0 where
   pub inside : p < pagesIn (image .bytes)
   pub indexed : length (image .index) ≡ pagesIn (image .bytes)
 
-pub has-page : (image : Image) (p : ℕ) → decision (imageRules image p) ≡ accepted → HasPage image p
-has-page image p e =
+-- whatever is tested behind
+pub has-page : (image : Image) (p : ℕ) (behind : Decision)
+    → cond (not (isKnown (image .profile))) (refused 18 []) (cond (not (imageFits (image .bytes))) (refused 12 [])
+    (cond (not (ltb p (pagesIn (image .bytes)))) (refused 13 []) (cond (not (eqb (length (image .index)) (pagesIn (image .bytes)))) (refused 14 []) behind))) ≡ accepted
+    → HasPage image p × (behind ≡ accepted)
+has-page image p behind e =
     let known = passes (isKnown (image .profile)) 18 [] _ e in
     let sized = passes (imageFits (image .bytes)) 12 [] _ (known .1) in
     let number = passes (ltb p (pagesIn (image .bytes))) 13 [] _ (sized .1) in
-    let index = passes (eqb (length (image .index)) (pagesIn (image .bytes))) 14 [] _ (number .1) in
-    record {
-      profileKnown = known .0;
-      sized = sized .0;
-      inside = ltb-true _ _ (number .0);
-      indexed = eqb-true _ _ (index .0);
-    }
+    let index = passes (eqb (length (image .index)) (pagesIn (image .bytes))) 14 [] behind (number .1) in (
+      record {
+        profileKnown = known .0;
+        sized = sized .0;
+        inside = ltb-true _ _ (number .0);
+        indexed = eqb-true _ _ (index .0);
+      },
+      index .1,
+    )
 
 pub replace-accepted : (image : Image) (p : ℕ) (page : List ℕ) → replaceDecision image p page ≡ accepted → HasPage image p × (length page ≡ 256)
 replace-accepted image p page e =
-    let parts = all-accepted (imageRules image p) (wholePageRule page ∷ []) e in
-    (has-page image p (parts .0), eqb-true _ _ (passes (eqb (length page) 256) 1 [] _ (parts .1) .0))
+    let has = has-page image p _ e in
+    (has .0, eqb-true _ _ (passes (eqb (length page) 256) 1 [] _ (has .1) .0))

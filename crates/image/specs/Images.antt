@@ -51,12 +51,16 @@ imageRule bytes = rule (not (imageFits bytes)) 12 []
 abbrev pub numberRule : List ℕ → ℕ → Rule
 numberRule bytes p = rule (not (ltb p (pagesIn bytes))) 13 []
 
-abbrev pub indexLengthRule : Image → Rule
-indexLengthRule image = rule (not (eqb (length (image .index)) (pagesIn (image .bytes)))) 14 []
+abbrev pub indexLengthRule : List ℕ → List ℕ → Rule
+indexLengthRule bytes index = rule (not (eqb (length index) (pagesIn bytes))) 14 []
+
+-- 18, 12: what every call tests first that takes an image
+abbrev pub imageRules : Image → List Rule
+imageRules image = profileRule (image .profile) ∷ imageRule (image .bytes) ∷ []
 
 -- 18, 12, 13, 14: what every call tests first that takes a page of an image
-abbrev pub imageRules : Image → ℕ → List Rule
-imageRules image p = profileRule (image .profile) ∷ imageRule (image .bytes) ∷ numberRule (image .bytes) p ∷ indexLengthRule image ∷ []
+abbrev pub pageRules : Image → ℕ → List Rule
+pageRules image p = imageRules image ++ (numberRule (image .bytes) p ∷ indexLengthRule (image .bytes) (image .index) ∷ [])
 
 -- refusal 1, of a page that is to be put into an image
 abbrev pub wholePageRule : List ℕ → Rule

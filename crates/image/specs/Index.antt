@@ -1,13 +1,13 @@
--- The index: the counts of an image's pages, how it is built, and a page that is replaced.
+-- The index, as 02 has it: the counts of an image's pages, how it is built, and a page that is replaced.
 use Prim.Native.Nat.{ℕ, zero, suc, _+_}
 use mathlib.Core.Bool.{Bool, true, false, not, _&&_}
 use mathlib.Core.List.{List, [], _∷_, _++_}
 use lib.Dec.{eqb}
 use lib.ListN.{set}
 use Rattle.refusal.specs.Refusals.{Decision, Rule, rule, decision, whenAccepted}
-use Rattle.platform.specs.Programs.{withPage, profileRule}
+use Rattle.platform.specs.Programs.{withPage}
 use Rattle.count.specs.Count.{countProgram}
-use Rattle.image.specs.Images.{Image, pagesIn, programAt, withPageAt, imageRule, indexLengthRule, imageRules, wholePageRule}
+use Rattle.image.specs.Images.{Image, pagesIn, programAt, withPageAt, indexLengthRule, imageRules, pageRules, wholePageRule}
 
 -- ---- the counts
 
@@ -17,8 +17,8 @@ countAt image p = countProgram (programAt image p) .count
 
 -- a number for each of n pages, from page p on
 abbrev pub eachFrom : (ℕ → ℕ) → ℕ → ℕ → List ℕ
-eachFrom number p zero = []
-eachFrom number p (suc n) = number p ∷ eachFrom number (p + 1) n
+eachFrom f p zero = []
+eachFrom f p (suc n) = f p ∷ eachFrom f (p + 1) n
 
 -- the counts of all its pages, worked out afresh
 abbrev pub countsIn : Image → List ℕ
@@ -38,7 +38,7 @@ indexRule image = rule (not (equalLists (image .index) (countsIn image))) 21 []
 -- ---- an index that is built: 18, 12, 14
 
 abbrev pub buildRules : Image → List Rule
-buildRules image = profileRule (image .profile) ∷ imageRule (image .bytes) ∷ indexLengthRule image ∷ []
+buildRules image = imageRules image ++ (indexLengthRule (image .bytes) (image .index) ∷ [])
 
 abbrev pub buildDecision : Image → Decision
 buildDecision image = decision (buildRules image)
@@ -50,7 +50,7 @@ indexBuilt image = whenAccepted (buildDecision image) (countsIn image) (image .i
 -- ---- a page that is replaced: 18, 12, 13, 14, 1
 
 abbrev pub replaceRules : Image → ℕ → List ℕ → List Rule
-replaceRules image p page = imageRules image p ++ (wholePageRule page ∷ [])
+replaceRules image p page = pageRules image p ++ (wholePageRule page ∷ [])
 
 abbrev pub replaceDecision : Image → ℕ → List ℕ → Decision
 replaceDecision image p page = decision (replaceRules image p page)

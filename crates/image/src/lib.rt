@@ -5,9 +5,10 @@ ghost use mathlib.Core.Path.{_≡_};
 ghost use lib.ListN.{length};
 ghost use lib.Seq.{paste};
 ghost use Rattle.refusal.specs.Refusals.{decision, decisionOf};
-ghost use Rattle.platform.specs.Programs.{programOf};
+ghost use Rattle.isa.specs.Profiles.{profileOf};
+ghost use Rattle.platform.specs.Programs.{programOf, profileRule};
 ghost use Rattle.count.specs.Count.{countProgram};
-ghost use Rattle.image.specs.Images.{imageOf, imageFits, pagesIn, pageAt, imageRules, wholePageRule};
+ghost use Rattle.image.specs.Images.{imageOf, imageFits, pagesIn, pageAt, imageRule, numberRule, indexLengthRule, pageRules, wholePageRule};
 ghost use Rattle.image.specs.Index.{countsIn, equalLists, buildDecision, indexBuilt, replaceDecision, afterReplace};
 use platform::Platform;
 use refusal::Refusal;
@@ -28,8 +29,8 @@ fn fits(image: &[u8]) -> bool
     image.len() % 256 == 0
 }
 
-fn of_build(image: &[u8], index: &[u8], platform: Platform) -> Verdict
-    ensures { λ v. ⌜ decisionOf v ≡ buildDecision (imageOf (now (image .entry)) (now (index .entry)) platform) ⌝ }
+fn of_image(image: &[u8], platform: Platform) -> Verdict
+    ensures { λ v. ⌜ decisionOf v ≡ decision (profileRule (profileOf (platform .profile)) ∷ imageRule (now (image .entry)) ∷ []) ⌝ }
 {
     if !platform::is_known(platform) {
         return Verdict::Refused(Refusal::UnknownProfile);
@@ -37,29 +38,44 @@ fn of_build(image: &[u8], index: &[u8], platform: Platform) -> Verdict
     if !fits(image) {
         return Verdict::Refused(Refusal::ImageLength);
     }
+    Verdict::Accepted
+}
+
+fn of_number(image: &[u8], number: u32) -> Verdict
+    ensures { λ v. ⌜ decisionOf v ≡ decision (numberRule (now (image .entry)) number ∷ []) ⌝ }
+{
+    if (number as usize) >= image.len() / 256 {
+        return Verdict::Refused(Refusal::NoSuchPage);
+    }
+    Verdict::Accepted
+}
+
+fn of_index_length(image: &[u8], index: &[u8]) -> Verdict
+    ensures { λ v. ⌜ decisionOf v ≡ decision (indexLengthRule (now (image .entry)) (now (index .entry)) ∷ []) ⌝ }
+{
     if index.len() != image.len() / 256 {
         return Verdict::Refused(Refusal::IndexLength);
     }
     Verdict::Accepted
 }
 
-// There is an image and an index for it, and a page of this number.
-pub fn of_page(image: &[u8], index: &[u8], platform: Platform, number: u32) -> Verdict
-    ensures { λ v. ⌜ decisionOf v ≡ decision (imageRules (imageOf (now (image .entry)) (now (index .entry)) platform) number) ⌝ }
+fn of_build(image: &[u8], index: &[u8], platform: Platform) -> Verdict
+    ensures { λ v. ⌜ decisionOf v ≡ buildDecision (imageOf (now (image .entry)) (now (index .entry)) platform) ⌝ }
 {
-    if !platform::is_known(platform) {
-        return Verdict::Refused(Refusal::UnknownProfile);
-    }
-    if !fits(image) {
-        return Verdict::Refused(Refusal::ImageLength);
-    }
-    if (number as usize) >= image.len() / 256 {
-        return Verdict::Refused(Refusal::NoSuchPage);
-    }
-    if index.len() != image.len() / 256 {
-        return Verdict::Refused(Refusal::IndexLength);
-    }
-    Verdict::Accepted
+    let whole = of_image(image, platform);
+    let indexed = of_index_length(image, index);
+    refusal::first_of(whole, indexed)
+}
+
+// There is an image, a page of this number, and an index.
+pub fn of_page(image: &[u8], index: &[u8], platform: Platform, number: u32) -> Verdict
+    ensures { λ v. ⌜ decisionOf v ≡ decision (pageRules (imageOf (now (image .entry)) (now (index .entry)) platform) number) ⌝ }
+{
+    let whole = of_image(image, platform);
+    let placed = of_number(image, number);
+    let indexed = of_index_length(image, index);
+    let behind = refusal::first_of(placed, indexed);
+    refusal::first_of(whole, behind)
 }
 
 // A page that is to be put into an image.

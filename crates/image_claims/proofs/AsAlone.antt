@@ -1,15 +1,11 @@
 -- A run in page p of an image gives what a run on that page alone gives, where neither is refused.
-use Prim.Native.Nat.{ℕ}
-use mathlib.Core.List.{List}
 use mathlib.Core.Path.{_≡_, sym, _∙_}
-use Rattle.refusal.specs.Refusals.{accepted}
-use Rattle.state.specs.declared.Record.{Record}
 use Rattle.platform.specs.Programs.{Setting}
 use Rattle.series.specs.Machine.{Handed, calledBy}
-use Rattle.claims.specs.Demand3.{CodeCall, lonePage}
+use Rattle.claims.specs.Demand3.{lonePage}
 use Rattle.claims.specs.Demand3 as lone
 use Rattle.claims.proofs.Machines.{code-keeps}
-use Rattle.image_claims.specs.ImageMachine.{InPage, imagePage, ImageCall, handedTo, gaveBy}
+use Rattle.image_claims.specs.ImageMachine.{InPage, imagePage, handedTo}
 use Rattle.image_claims.specs.AsAlone.{HandedAlike, NeitherRefused, AsAlone}
 use Rattle.image_claims.proofs.Admitted.{to-alone}
 use Rattle.image_claims.proofs.Machines.{image-keeps}

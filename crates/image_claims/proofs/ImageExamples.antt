@@ -1,12 +1,10 @@
--- An image that may be run, by computation; and a wrong byte, by the table.
+-- An image that may be run, by computation.
 use Prim.Native.Nat.{ℕ, zero, suc, _<_}
 use native.Mathlib.Omega.{arith}
-use mathlib.Core.List.{List, [], _∷_}
-use mathlib.Core.Path.{_≡_, refl, sym, _∙_}
+use mathlib.Core.List.{List, []}
+use mathlib.Core.Path.{_≡_, refl}
 use lib.ListN.{length}
-use Rattle.refusal.specs.Refusals.{accepted, refused, decision}
-use Rattle.refusal.proofs.Theorems.{after}
-use Rattle.page.specs.Page.{halfwordAt, pageFits}
+use Rattle.page.specs.Page.{halfwordAt}
 use Rattle.isa.specs.Patterns.{matches}
 use Rattle.isa.specs.ListedEncodings.{opens32, decodeBy}
 use Rattle.isa.specs.Profiles.{rowsIn}
@@ -17,7 +15,6 @@ use Rattle.bundle.specs.Flow.{flowOf}
 use Rattle.bundle.specs.Successors.{successorsOf}
 use Rattle.state.specs.Record.{freshRecord, withRegister, withPlace}
 use Rattle.state.specs.Validation.{externalFits}
-use Rattle.state.specs.declared.Record.{Record}
 use Rattle.writing.specs.Writes.{applied}
 use Rattle.effects.specs.ServiceEffects.{leavesNone, serviceDoes}
 use Rattle.place.specs.Places.{standsIn, instructionAt, following}
@@ -25,12 +22,8 @@ use Rattle.instruction.specs.Instructions.{endAt, exitOf, servedBy, served, eff
 use Rattle.stop.specs.Stops.{service, direct}
 use Rattle.plain.specs.PlainMachine.{plain}
 use Rattle.claims.specs.Cuts.{atReturn}
-use Rattle.image.specs.Images.{imageFits, pagesIn, programAt, byteOf, imageRules}
-use Rattle.image.specs.Index.{countAt, countsIn, equalLists, indexRule}
-use Rattle.image.proofs.Laws.{differ, other-byte}
-use Rattle.image.proofs.Theorems.{has-page}
-use Rattle.admission.specs.RunRefusals.{lentRules, recordRules}
-use Rattle.image_runs.specs.ImageRuns.{ImageSetting, imageAreaRules, imageDecision, imageRunOf}
+use Rattle.image.specs.Images.{imageFits}
+use Rattle.image_runs.specs.ImageRuns.{imageRunOf}
 use Rattle.image_claims.specs.ImageMachine.{programIn, byteIn, AllowedIn, FitStartIn}
 use Rattle.image_claims.specs.ImageExamples.{inSecond, ImageExamples}
 use Rattle.image_claims.proofs.Admitted.{allowed-start-in, byte-counts, fresh-starts-in}
@@ -68,17 +61,5 @@ runs : (ram : List ℕ) → length ram ≡ 32768
 unfolding halfwordAt opens32 decodeBy rowsIn matches serviceOf byLowByte instructionOf instructionAt standsIn following effectOf endAt exitOf servedBy served leavesNone serviceDoes applied withRegister withPlace plain
 runs ram n = rw (allowed-start-in inSecond allowed (record { rec = freshRecord; ram = ram }) (starts ram n))
 
-wrong-byte : (setting : ImageSetting) (p q : ℕ) (r : Record) (ram : List ℕ) → decision (imageRules (setting .image) p) ≡ accepted
-    → q < pagesIn (setting .image .bytes) → (byteOf (setting .image) q ≡ countAt (setting .image) q → ⊥)
-    → imageDecision setting p r ram ≡ refused 21 []
-unfolding imageDecision
-wrong-byte setting p q r ram e l wrong =
-    let image = setting .image in
-    let indexed = has-page image p e .indexed in
-    let lent = lentRules (setting .external) (setting .window) ram in
-    let not-equal = differ (image .index) (countsIn image) (other-byte image (image .index) indexed q (omega (arith, indexed)) wrong) in
-    let areas : decision (imageAreaRules setting p ram) ≡ refused 21 [] = after (imageRules image p) (indexRule image ∷ lent) accepted (sym e) ∙ rw not-equal in
-    after (imageAreaRules setting p ram) (recordRules (programAt image p) (byteOf image p) (length (setting .external)) r) (refused 21 []) (sym areas)
-
 pub image-examples : ImageExamples
-image-examples = record { allowed = allowed; starts = starts; runs = runs; wrong-byte = wrong-byte }
+image-examples = record { allowed = allowed; starts = starts; runs = runs }

@@ -7,4 +7,5 @@ pub mod Demand3
 pub mod StopAndGoOn
 pub mod Windows
 pub mod AsAlone
+pub mod WrongIndex
 pub mod ImageExamples

@@ -9,7 +9,7 @@ use Rattle.refusal.specs.Refusals.{accepted}
 use Rattle.series.specs.Machine.{calledBy}
 use Rattle.series.proofs.Keeps.{keeps-too, KeepsAdmitted, KeepsAll, keeps-admitted}
 use Rattle.series.proofs.Windows.{WithinWindow}
-use Rattle.instruction.specs.Fitness.{StartsBy, ServiceAt, Known}
+use Rattle.instruction.specs.Fitness.{ServiceAt, Known}
 use Rattle.instruction.specs.Instructions.{instructionOf}
 use Rattle.admission.specs.RunRefusals.{runDecision}
 use Rattle.image_runs.specs.ImageRuns.{imageDecision}

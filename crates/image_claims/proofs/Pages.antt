@@ -3,71 +3,62 @@ use Prim.Native.Nat.{ℕ, _+_, _-_, _*_, _<_, _≤_, min}
 use native.Mathlib.Omega.{arith}
 use native.Mathlib.Decide.{decLe}
 use mathlib.Core.List.{List, _++_, append-assoc}
-use mathlib.Core.Path.{_≡_, refl, sym, ap, _∙_}
-use lib.ListN.{length, getD, take, drop, length-append, length-take, length-drop, List·getD-append}
-use lib.Seq.{length-take-le, take-at, drop-at, getD-append-add, getD-take, getD-drop, ext-getD}
+use mathlib.Core.Path.{_≡_, sym, ap, _∙_}
+use lib.ListN.{length, getD, take, drop, length-take, length-drop, List·getD-append}
+use lib.Seq.{length-take-le, take-all, take-at, drop-at, getD-take, getD-drop, ext-getD, paste, length-paste, take-paste, drop-paste}
 use Rattle.image.specs.Images.{pagesIn, pageAt, withPageAt}
+use Rattle.image.proofs.Laws.{pasted}
 
--- ---- a part of a list that is exchanged for another of its length
+-- ---- a part that is pasted into a list
 
-module _ (xs part : List ℕ) (at : ℕ) (inside : at + length part ≤ length xs) where
-  abbrev rest : List ℕ
-  rest = drop (at + length part) xs
-
-  abbrev exchanged : List ℕ
-  exchanged = take at xs ++ part ++ rest
-
+module _ (xs part : List ℕ) (at n : ℕ) (inside : at + n ≤ length xs) (whole : n ≤ length part) where
   head-length : length (take at xs) ≡ at
   head-length = length-take-le at xs (omega (arith, inside))
 
-  from-head : exchanged ≡ take at xs ++ (part ++ rest)
-  from-head = append-assoc (take at xs) part rest
+  pasted-part : take n (drop at (paste xs at part n)) ≡ take n part
+  pasted-part =
+      ap (λ ys. take n (drop at ys)) (append-assoc (take at xs) (take n part) (drop (at + n) xs))
+      ∙ ap (take n) (drop-at (take at xs) (take n part ++ drop (at + n) xs) at head-length)
+      ∙ take-at (take n part) (drop (at + n) xs) n (length-take-le n part whole)
 
-  same-length : length exchanged ≡ length xs
-  same-length =
-      length-append (take at xs ++ part) rest
-      ∙ rw (length-append (take at xs) part, head-length, length-drop (at + length part) xs) (omega (arith, inside))
-
-  the-part : take (length part) (drop at exchanged) ≡ part
-  the-part =
-      ap (λ ys. take (length part) (drop at ys)) from-head
-      ∙ ap (take (length part)) (drop-at (take at xs) (part ++ rest) at head-length)
-      ∙ take-at part rest (length part) refl
-
-  before : (k : ℕ) → k < at → getD exchanged k 0 ≡ getD xs k 0
+  before : (k : ℕ) → k < at → getD (paste xs at part n) k 0 ≡ getD xs k 0
   before k l =
-      ap (λ ys. getD ys k 0) from-head ∙ List·getD-append (take at xs) (part ++ rest) 0 k (omega (arith, head-length)) ∙ getD-take at xs k 0 l
+      sym (getD-take (at + n) (paste xs at part n) k 0 (omega arith))
+      ∙ ap (λ ys. getD ys k 0) (take-paste xs at part n (omega (arith, inside)) whole)
+      ∙ List·getD-append (take at xs) (take n part) 0 k (omega (arith, head-length)) ∙ getD-take at xs k 0 l
 
-  behind : (k : ℕ) → at + length part ≤ k → getD exchanged k 0 ≡ getD xs k 0
+  behind : (k : ℕ) → at + n ≤ k → getD (paste xs at part n) k 0 ≡ getD xs k 0
   behind k l =
-      let past = k - (at + length part) in
-      let to : k ≡ length (take at xs) + (length part + past) = omega (arith, head-length) in
-      let from : at + length part + past ≡ k = omega arith in
-      ap (λ ys. getD ys k 0) from-head ∙ ap (λ i. getD (take at xs ++ (part ++ rest)) i 0) to
-      ∙ getD-append-add (take at xs) (part ++ rest) (length part + past) 0
-      ∙ getD-append-add part rest past 0 ∙ getD-drop (at + length part) xs past 0 ∙ ap (λ i. getD xs i 0) from
+      let from : at + n + (k - (at + n)) ≡ k = omega arith in
+      sym (ap (λ i. getD (paste xs at part n) i 0) from) ∙ sym (getD-drop (at + n) (paste xs at part n) (k - (at + n)) 0)
+      ∙ ap (λ ys. getD ys (k - (at + n)) 0) (drop-paste xs at part n (omega (arith, inside)) whole)
+      ∙ getD-drop (at + n) xs (k - (at + n)) 0 ∙ ap (λ i. getD xs i 0) from
 
 -- ---- a page
 
 module _ (bytes page : List ℕ) (p : ℕ) (whole : length page ≡ 256) (inside : p < pagesIn bytes) where
-  fits : 256 * p + length page ≤ length bytes
-  fits = omega (arith, whole, inside)
+  fits : 256 * p + 256 ≤ length bytes
+  fits = omega (arith, inside)
 
-  as-exchanged : withPageAt bytes p page ≡ take (256 * p) bytes ++ page ++ drop (256 * p + length page) bytes
-  as-exchanged = rw whole
+  enough : 256 ≤ length page
+  enough = omega (arith, whole)
+
+  as-pasted : withPageAt bytes p page ≡ paste bytes (256 * p) page 256
+  as-pasted = sym (pasted bytes page p whole)
 
   pub put-length : length (withPageAt bytes p page) ≡ length bytes
-  put-length = ap length as-exchanged ∙ same-length bytes page (256 * p) fits
+  put-length = ap length as-pasted ∙ length-paste bytes (256 * p) page 256 fits enough
 
   pub put-page : pageAt (withPageAt bytes p page) p ≡ page
-  put-page = rw whole at (the-part bytes page (256 * p) fits)
+  put-page =
+      ap (λ ys. pageAt ys p) as-pasted ∙ pasted-part bytes page (256 * p) 256 fits enough ∙ take-all 256 page (omega (arith, whole))
 
-  other-byte : (k : ℕ) → (256 * p ≤ k → 256 * p + 256 ≤ k) → getD (withPageAt bytes p page) k 0 ≡ getD bytes k 0
-  other-byte k apart =
-      ap (λ ys. getD ys k 0) as-exchanged
+  byte-outside : (k : ℕ) → (256 * p ≤ k → 256 * p + 256 ≤ k) → getD (withPageAt bytes p page) k 0 ≡ getD bytes k 0
+  byte-outside k apart =
+      ap (λ ys. getD ys k 0) as-pasted
       ∙ elim (decLe (256 * p) k) [
-        | yes l ↦ behind bytes page (256 * p) fits k (omega (arith, whole, apart l))
-        | no l ↦ before bytes page (256 * p) fits k (omega arith)
+        | yes l ↦ behind bytes page (256 * p) 256 fits enough k (apart l)
+        | no l ↦ before bytes page (256 * p) 256 fits enough k (omega arith)
       ]
 
 -- another page of the image, or one past it, is what it was
@@ -93,7 +84,7 @@ other-page bytes page p q whole inside apart =
     at-byte : (i : ℕ) → i < 256 → getD (pageAt (withPageAt bytes p page) q) i 0 ≡ getD (pageAt bytes q) i 0
     at-byte i l =
         byte (withPageAt bytes p page) i l
-        ∙ other-byte bytes page p whole inside (256 * q + i) (λ h. past i l h) ∙ sym (byte bytes i l)
+        ∙ byte-outside bytes page p whole inside (256 * q + i) (λ h. past i l h) ∙ sym (byte bytes i l)
       where
         past : (i : ℕ) → i < 256 → 256 * p ≤ 256 * q + i → 256 * p + 256 ≤ 256 * q + i
         past i l h = elim (decLe (p + 1) q) [

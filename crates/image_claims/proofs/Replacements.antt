@@ -1,26 +1,25 @@
 -- After any replacements the index equals the counts worked out afresh.
-use Prim.Native.Nat.{ℕ, zero, suc, _+_, _/_, _<_, _≤_}
+use Prim.Native.Nat.{ℕ, _/_, _<_}
 use native.Mathlib.Omega.{arith}
-use mathlib.Core.Bool.{Bool, true, false, not, _&&_, true≢false}
-use mathlib.Core.List.{List, [], _∷_, _++_}
+use mathlib.Core.Bool.{Bool, true, false, not, _&&_, cond, true≢false}
+use mathlib.Core.List.{List, [], _∷_}
 use mathlib.Core.Path.{_≡_, refl, sym, ap, subst, _∙_}
 use lib.Dec.{eqb}
-use lib.ListN.{length, getD, set, length-set}
+use lib.ListN.{length, getD, length-set}
 use lib.Seq.{getD-set-same, getD-set-other, ext-getD}
-use borrow.Author.Tests.{eqb-true, eqb-false, eq-eqb}
-use Rattle.refusal.specs.Refusals.{Decision, accepted, refused, Rule, rule, decision, whenAccepted}
-use Rattle.platform.specs.Programs.{Program, withPage}
-use Rattle.count.specs.Count.{countProgram}
+use borrow.Author.Tests.{eqb-true, eqb-false}
+use Rattle.refusal.specs.Refusals.{Decision, accepted, refused}
+use Rattle.refusal.proofs.Theorems.{refusing-line}
 use Rattle.state.specs.declared.Record.{Record}
 use Rattle.window.specs.declared.Window.{Window}
-use Rattle.image.specs.Images.{Image, pagesIn, pageAt, programAt, byteOf, withPageAt}
-use Rattle.image.specs.Index.{countAt, countsIn, equalLists, buildDecision, indexBuilt, replaceDecision, replaced, afterReplace}
+use Rattle.image.specs.Images.{Image, pagesIn, pageAt, byteOf}
+use Rattle.image.specs.Index.{countAt, countsIn, equalLists, replaceDecision, replaced, afterReplace}
 use Rattle.image.proofs.Laws.{counts-length, count-among, true-equal}
-use Rattle.image.proofs.Theorems.{build-accepted, HasPage, replace-accepted}
+use Rattle.image.proofs.Theorems.{HasPage, replace-accepted}
 use Rattle.image_runs.specs.ImageRuns.{imageSettingOf, imageRunRules, imageDecision}
-use Rattle.series.specs.HandedOn.{InSeries, own, other}
+use Rattle.series.specs.HandedOn.{Standing, InSeries, own, other, leftBy, leftByAll, HandedOn}
 use Rattle.series.proofs.Theorems.{stays}
-use Rattle.image_claims.specs.Replacements.{Building, leftBy, leftByAll, HandedIn, InARow, Replacements}
+use Rattle.image_claims.specs.Replacements.{Building, standing, onPlatformOf, SamePlatform, imageAfter, Replacements}
 use Rattle.image_claims.proofs.Pages.{put-length, put-page, other-page}
 
 -- ---- one replacement that isn't refused
@@ -65,22 +64,12 @@ module _ (image : Image) (p : ℕ) (page : List ℕ) (e : replaceDecision image 
 
 -- ---- a right index
 
--- a table whose lines of a number don't hold isn't refused by it
-abbrev Without : ℕ → List Rule → Type 0
-Without k [] = Unit {0}
-Without k (rule test n values ∷ rules) = ((eqb n k && test) ≡ false) × Without k rules
-
-without : (k : ℕ) (rules : List Rule) → Without k rules → decision rules ≡ refused k [] → ⊥
-without k [] h e = true≢false cc
-without k (rule true n values ∷ rules) h e = let same : n ≡ k = cc in true≢false (rw (eq-eqb n k same) at (h .0))
-without k (rule false n values ∷ rules) h e = without k rules (h .1) e
-
 right-index : (image : Image) → image .index ≡ countsIn image → (external : List ℕ) (window : Window) (p : ℕ) (r : Record) (ram : List ℕ)
     → imageDecision (imageSettingOf image external window) p r ram ≡ refused 21 [] → ⊥
 unfolding imageDecision
-right-index image fresh external window p r ram =
-    without 21 (imageRunRules (imageSettingOf image external window) p r ram)
-    (refl, (refl, (refl, (refl, (ap not same, (refl, (refl, (refl, (refl, (refl, (refl, (refl, (refl, tt)))))))))))))
+right-index image fresh external window p r ram e =
+    true≢false (refusing-line (λ test n values. (eqb n 21 && test) ≡ false) (imageRunRules (imageSettingOf image external window) p r ram)
+    (refl, (refl, (refl, (refl, (ap not same, (refl, (refl, (refl, (refl, (refl, (refl, (refl, (refl, tt))))))))))))) 21 [] e)
   where
     same : equalLists (image .index) (countsIn image) ≡ true
     same = rw (← fresh) (true-equal (image .index))
@@ -110,23 +99,50 @@ module _ (b : Building) (m : MeetsBuilding b) where
       go accepted e = rw (left-accepted c e) (still-fresh (b .handed c) (b .number c) (b .page c) (accepts c e) fresh)
       go (refused n values) e = rw (left-refused c n values e) fresh
 
-  -- a refused one leaves what stands
-  refused-stays : (rowImage rowIndex : Bool) (c : b .Replace) (image : Image) → HandedIn b (other rowImage rowIndex c) image
-      → leftBy b (other rowImage rowIndex c) image ≡ image
-  refused-stays rowImage rowIndex c image h =
-      let same = left-refused c (h .0 .0) (h .0 .1) (h .0 .2) in
-      let bytes = stays rowImage (image .bytes) (b .left c .bytes) (λ t. ap (λ (x : Image). x .bytes) same ∙ h .1 t) in
-      let index = stays rowIndex (image .index) (b .left c .index) (λ t. ap (λ (x : Image). x .index) same ∙ h .2 t) in
-      λ i. record { bytes = bytes i; index = index i; neverReturn = image .neverReturn; profile = image .profile }
+  -- a call changes no platform
+  platform-stays : (c : b .Replace) → SamePlatform (b .left c) (b .handed c)
+  platform-stays c = go (b .told c) refl
+    where
+      go : (d : Decision) → b .told c ≡ d → SamePlatform (b .left c) (b .handed c)
+      go accepted e = rw (left-accepted c e) (refl, refl)
+      go (refused n values) e = rw (left-refused c n values e) (refl, refl)
 
-  all-fresh : (cs : List (InSeries (b .Replace))) (image : Image) → image .index ≡ countsIn image → InARow b cs image
-      → leftByAll b cs image .index ≡ countsIn (leftByAll b cs image)
-  all-fresh [] image fresh h = fresh
-  all-fresh (own c ∷ cs) image fresh h =
-      all-fresh cs (b .left c) (keeps-fresh c (subst (λ (x : Image). x .index ≡ countsIn x) (sym (h .0)) fresh)) (h .1)
-  all-fresh (other rowImage rowIndex c ∷ cs) image fresh h =
-      all-fresh cs (leftBy b (other rowImage rowIndex c) image)
-      (subst (λ (x : Image). x .index ≡ countsIn x) (sym (refused-stays rowImage rowIndex c image (h .0))) fresh) (h .1)
+  module _ (first : Image) where
+    -- what stands has a right index, under the platform that it was built with
+    abbrev Fresh : Standing (List ℕ) → Type 0
+    Fresh s = onPlatformOf first s .index ≡ countsIn (onPlatformOf first s)
+
+    on-platform : (image : Image) → SamePlatform image first → image ≡ onPlatformOf first (standing image)
+    on-platform image same = λ i. record { bytes = image .bytes; index = image .index; neverReturn = same .0 i; profile = same .1 i }
+
+    own-fresh : (c : b .Replace) (s : Standing (List ℕ)) → SamePlatform (b .handed c) first → standing (b .handed c) ≡ s → Fresh s
+        → Fresh (standing (b .left c))
+    own-fresh c s same handed fresh =
+        let stays = platform-stays c in
+        let given : b .handed c ≡ onPlatformOf first s = on-platform (b .handed c) same ∙ ap (onPlatformOf first) handed in
+        subst (λ (x : Image). x .index ≡ countsIn x) (on-platform (b .left c) (stays .0 ∙ same .0, stays .1 ∙ same .1))
+        (keeps-fresh c (subst (λ (x : Image). x .index ≡ countsIn x) (sym given) fresh))
+
+    all-fresh : (cs : List (InSeries (b .Replace))) (s : Standing (List ℕ)) → Fresh s
+        → HandedOn (λ c. standing (b .left c)) (λ c. standing (b .handed c)) (λ c. SamePlatform (b .handed c) first)
+        (λ c. (n : ℕ) × (values : List ℕ) × (b .told c ≡ refused n values)) cs s
+        → Fresh (leftByAll (λ c. standing (b .left c)) cs s)
+    all-fresh [] s fresh h = fresh
+    all-fresh (own c ∷ cs) s fresh h = all-fresh cs (standing (b .left c)) (own-fresh c s (h .0 .0) (h .0 .1) fresh) (h .1)
+    all-fresh (other rowImage rowIndex c ∷ cs) s fresh h =
+        all-fresh cs (leftBy (λ x. standing (b .left x)) (other rowImage rowIndex c) s) (subst Fresh (sym still) fresh) (h .1)
+      where
+        same : b .left c ≡ b .handed c
+        same = left-refused c (h .0 .0 .0) (h .0 .0 .1) (h .0 .0 .2)
+
+        bytes : cond rowImage (b .left c .bytes) (s .rec) ≡ s .rec
+        bytes = stays rowImage (s .rec) (b .left c .bytes) (λ t. ap (λ (x : Image). x .bytes) same ∙ h .0 .1 t)
+
+        index : cond rowIndex (b .left c .index) (s .ram) ≡ s .ram
+        index = stays rowIndex (s .ram) (b .left c .index) (λ t. ap (λ (x : Image). x .index) same ∙ h .0 .2 t)
+
+        still : leftBy (λ x. standing (b .left x)) (other rowImage rowIndex c) s ≡ s
+        still = λ i. record { rec = bytes i; ram = index i }
 
   -- what each call changes, refused or not
   module _ (c : b .Replace) (q : ℕ) (apart : q ≡ b .number c → ⊥) where
@@ -147,15 +163,27 @@ module _ (b : Building) (m : MeetsBuilding b) where
         go accepted e = ap (λ (x : Image). byteOf x q) (left-accepted c e) ∙ getD-set-other (b .handed c .index) (b .number c) q _ 0 apart
         go (refused n values) e = ap (λ (x : Image). byteOf x q) (left-refused c n values e)
 
+  lengths-stay : (c : b .Replace)
+      → (length (b .left c .bytes) ≡ length (b .handed c .bytes)) × (length (b .left c .index) ≡ length (b .handed c .index))
+  lengths-stay c = go (b .told c) refl
+    where
+      go : (d : Decision) → b .told c ≡ d
+          → (length (b .left c .bytes) ≡ length (b .handed c .bytes)) × (length (b .left c .index) ≡ length (b .handed c .index))
+      go accepted e =
+          let h = replace-accepted (b .handed c) (b .number c) (b .page c) (accepts c e) in
+          rw (left-accepted c e) (put-length (b .handed c .bytes) (b .page c) (b .number c) (h .1) (h .0 .inside), length-set (b .handed c .index) (b .number c) _)
+      go (refused n values) e = rw (left-refused c n values e) (refl, refl)
+
   pub replacements : Replacements b
   replacements = record {
-    index-is-fresh = λ first e cs h. all-fresh cs (b .built first) (m .built first e) h;
+    index-is-fresh = λ first e cs h. all-fresh (b .built first) cs (standing (b .built first)) (m .built first e) h;
     never-21 = λ first e cs h external window p r ram.
-        right-index (leftByAll b cs (b .built first)) (all-fresh cs (b .built first) (m .built first e) h) external window p r ram;
+        right-index (imageAfter b (b .built first) cs) (all-fresh (b .built first) cs (standing (b .built first)) (m .built first e) h) external window p r ram;
     page-put = λ c e.
         ap (λ (x : Image). pageAt (x .bytes) (b .number c)) (left-accepted c e) ∙ put (b .handed c) (b .number c) (b .page c) (accepts c e);
     byte-put = λ c e. rw (left-accepted c e) (own-byte (b .handed c) (b .number c) (b .page c) (accepts c e));
     other-pages = page-stays;
     other-bytes = byte-stays;
+    same-lengths = lengths-stay;
     refused-leaves = left-refused;
   }

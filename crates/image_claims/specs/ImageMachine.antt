@@ -12,7 +12,7 @@ use Rattle.isa.specs.Profiles.{isKnown}
 use Rattle.window.specs.Windows.{windowFits}
 use Rattle.platform.specs.Programs.{Program, Setting}
 use Rattle.state.specs.Validation.{externalFits}
-use Rattle.image.specs.Images.{Image, imageOf, imageFits, pagesIn, programAt, byteOf}
+use Rattle.image.specs.Images.{imageOf, imageFits, pagesIn, programAt, byteOf}
 use Rattle.image.specs.Index.{countsIn}
 use Rattle.plain.specs.PlainMachine.{Result}
 use Rattle.series.specs.Machine.{Handed, Kind, Machine, machineOf}

@@ -2,7 +2,7 @@
 use mathlib.Core.Path.{_≡_, sym, ap, _∙_}
 use Rattle.image_claims.specs.AsAlone.{HandedAlike, NeitherRefused}
 use Rattle.image_claims.proofs.AsAlone.{called-alike}
-use Rattle.hosting.specs.HostRuns.{crossing}
+use Rattle.hosting.specs.Crossed.{crossing}
 use Rattle.host_series.specs.HostSeries.{RecordCall, handedRecord}
 use Rattle.host_series.proofs.HostCalls.{crossed-ran}
 use Rattle.host_claims.specs.HostCalls.{loneHost}

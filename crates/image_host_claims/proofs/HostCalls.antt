@@ -1,10 +1,10 @@
 -- A host's calls of `mb_raw_image_run` and `mb_raw_image_step` are as is asked of a host's calls.
-use Prim.Native.Nat.{ℕ, _*_, _<_}
+use Prim.Native.Nat.{ℕ, _*_}
 use native.Mathlib.Omega.{arith}
 use native.Mathlib.Decide.{decLt}
 use mathlib.Core.List.{List, []}
-use mathlib.Core.Path.{_≡_, refl, _∙_}
-use lib.ListN.{getD, drop, length-take, List·getD-eq-default}
+use mathlib.Core.Path.{_≡_, refl}
+use lib.ListN.{drop, length-take, List·getD-eq-default}
 use lib.Seq.{getD-take, getD-drop}
 use Rattle.state.specs.declared.Record.{Record}
 use Rattle.image.specs.Images.{pageAt}
@@ -45,7 +45,7 @@ meets-image-host = record {
   keeps = image-page-keeps;
   within = image-within-window;
   no-values = no-values;
-  by-length = λ x bytes a b e. rw e;
+  by-length = λ x a b e. rw e;
   meets = meets;
   lent-bytes = λ c. lent-bytes c .bytes;
   held = λ c r a h.

@@ -1,10 +1,10 @@
 -- A host's calls of `mb_raw_image_build` and `mb_raw_image_replace` meet what is claimed of replacements in a row.
 use denote.Ref.{now}
 use Prim.Native.Nat.{ℕ}
-use mathlib.Core.Bool.{true, false}
-use mathlib.Core.List.{List, [], _∷_}
+use mathlib.Core.List.{List}
 use mathlib.Core.Path.{_≡_, refl, sym, ap, _∙_}
-use Rattle.refusal.specs.Refusals.{accepted, refused, Rule, rule, decision}
+use Rattle.refusal.specs.Refusals.{Decision, accepted, refused, Rule, decision}
+use Rattle.refusal.proofs.Theorems.{Lines, refusing-line}
 use Rattle.platform.specs.Platforms.{platformOf}
 use Rattle.image.specs.Images.{Image, imageOf}
 use Rattle.image.specs.Index.{countsIn, buildRules, buildDecision, replaceRules, replaceDecision, afterReplace}
@@ -13,15 +13,13 @@ use Rattle.image_claims.specs.Replacements.{Replacements}
 use Rattle.image_claims.proofs.Replacements.{replacements}
 use Rattle.image_host_claims.specs.HostImages.{decisionIn, HostBuild, ofBuild, HostReplace, ofReplace, builtBy, buildTold, handedImage, numberIn, pageIn, replaceTold, leftImage, hostBuilding}
 
--- the lines of a table have numbers from 1 on and carry no value, so that its code says all of a decision
-abbrev Told : List Rule → Type 0
-Told [] = Unit {0}
-Told (rule test n values ∷ rules) = (decisionIn n ≡ refused n values) × Told rules
-
-told-by : (rules : List Rule) → Told rules → decisionIn (codeOf (decision rules)) ≡ decision rules
-told-by [] h = refl
-told-by (rule true n values ∷ rules) h = h .0
-told-by (rule false n values ∷ rules) h = told-by rules (h .1)
+-- where no line of a table has the number 0 or carries a value, the code says all of its decision
+told-by : (rules : List Rule) → Lines (λ test n values. decisionIn n ≡ refused n values) rules → decisionIn (codeOf (decision rules)) ≡ decision rules
+told-by rules h = go (decision rules) refl
+  where
+    go : (d : Decision) → decision rules ≡ d → decisionIn (codeOf d) ≡ d
+    go accepted e = refl
+    go (refused n values) e = refusing-line (λ test k carried. decisionIn k ≡ refused k carried) rules h n values e
 
 build-told : (image : Image) → decisionIn (codeOf (buildDecision image)) ≡ buildDecision image
 build-told image = told-by (buildRules image) (refl, (refl, (refl, tt)))

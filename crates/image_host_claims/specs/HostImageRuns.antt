@@ -4,13 +4,12 @@ use borrow.Fn.World.{ArgsD, ResD}
 use borrow.Fn.Kinds.{endedOf}
 use denote.Triple.Clauses.{AtExit}
 use denote.Ref.{now}
-use Rattle.refusal.specs.Refusals.{decision}
 use Rattle.window.specs.Windows.{windowOf}
 use Rattle.platform.specs.Platforms.{platformOf}
 use Rattle.image.specs.Images.{imageOf}
-use Rattle.image_runs.specs.ImageRuns.{imageSettingOf}
+use Rattle.image_runs.specs.ImageRuns.{imageSettingOf, imageAreaRules}
 use Rattle.image_claims.specs.ImageMachine.{InPage, imagePage}
-use Rattle.hosting.specs.HostRuns.{Crossed, answered, noRecordRulesIn}
+use Rattle.hosting.specs.Crossed.{Crossed, answered}
 use Rattle.host_series.specs.Host.{Lent, Bytes, Host}
 use Rattle.marshbodkin.proofs.mb_raw_image_run as mb_raw_image_run
 use Rattle.marshbodkin.proofs.mb_raw_image_run.Kinds as run-kinds
@@ -21,6 +20,7 @@ use Rattle.marshbodkin.proofs.mb_raw_image_step.Reads as step-reads
 
 pub record LentBytes (l : Lent InPage) : Type 0 where
   pub image : Bytes (l .setting .setting .image .bytes)
+  pub index : Bytes (l .setting .setting .image .index)
   pub external : Bytes (l .setting .setting .external)
   pub bytes : Bytes (l .bytes)
   pub ram : Bytes (l .ram)
@@ -74,7 +74,7 @@ crossedBy (ofStep κs a x s bytes contract) =
 abbrev pub imageHost : Host
 imageHost = record {
   kind = imagePage;
-  noRecord = λ x bytes ram. decision (noRecordRulesIn (x .setting) (x .number) bytes ram);
+  areas = λ x ram. imageAreaRules (x .setting) (x .number) ram;
   Call = HostImageCall;
   lent = lentTo;
   crossed = crossedBy;

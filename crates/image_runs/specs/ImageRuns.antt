@@ -5,7 +5,7 @@ use lib.ListN.{length}
 use Rattle.refusal.specs.Refusals.{Decision, Rule, decision}
 use Rattle.window.specs.declared.Window.{Window}
 use Rattle.platform.specs.Programs.{Setting, settingOf}
-use Rattle.image.specs.Images.{Image, programAt, byteOf, imageRules}
+use Rattle.image.specs.Images.{Image, programAt, byteOf, pageRules}
 use Rattle.image.specs.Index.{indexRule}
 use Rattle.state.specs.declared.Record.{Record}
 use Rattle.admission.specs.RunRefusals.{lentRules, recordRules}
@@ -29,7 +29,7 @@ settingAt setting p = settingOf (programAt (setting .image) p) (setting .externa
 -- before the record is looked at: 18, 12, 13, 14, 21, 2, 3, 20
 abbrev pub imageAreaRules : ImageSetting → ℕ → List ℕ → List Rule
 imageAreaRules setting p ram =
-    imageRules (setting .image) p ++ (indexRule (setting .image) ∷ lentRules (setting .external) (setting .window) ram)
+    pageRules (setting .image) p ++ (indexRule (setting .image) ∷ lentRules (setting .external) (setting .window) ram)
 
 -- then 41 to 44, 5; whether the place is fit goes by the index byte of page p
 abbrev pub imageRunRules : ImageSetting → ℕ → Record → List ℕ → List Rule

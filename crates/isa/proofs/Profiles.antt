@@ -110,7 +110,6 @@ same-or-unlisted fewer more s rows a w = go (hasAt fewer rows w) refl
 -- ---- the two profiles
 
 -- their numbers are those below 2
--- the profiles that there are
 pub known-below : (number : ℕ) → ltb number 2 ≡ isKnown (profileOf number)
 known-below zero = refl
 known-below (suc zero) = refl

@@ -8,15 +8,12 @@ use mathlib.Core.Path.{_≡_, refl, sym, ap, _∙_}
 use lib.Dec.{ltb}
 use lib.ListN.{length, set, length-set}
 use borrow.Author.Tests.{ltb-true}
-use Rattle.refusal.specs.Refusals.{Decision, accepted, refusalNumber, refusalValues, decisionOf}
-use Rattle.refusal.specs.declared.Refusal.{Refusal}
+use Rattle.refusal.specs.Refusals.{accepted, decisionOf}
 use Rattle.refusal.specs.declared.Verdict.{Verdict}
-use Rattle.refusal.specs.declared.Verdict.the-variants.{Accepted, Refused}
+use Rattle.refusal.specs.declared.Verdict.the-variants.{Accepted}
 use Rattle.page.specs.Page.{pageFits, firstOf, secondOf}
 use Rattle.admission.specs.RunRefusals.{runDecision}
 use Rattle.admission.proofs.Theorems.{accepted-all}
-use Rattle.plain.specs.Calls.{callBy}
-use Rattle.machine.specs.Runs.{runOf}
 use Rattle.isa.specs.ListedEncodings.{opens32}
 use Rattle.isa.specs.declared.Operation.{Operation}
 use Rattle.isa.specs.declared.Instruction.{Instruction}
@@ -191,6 +188,6 @@ data-turn setting total steps r s ram operation c next result l i e n w h =
 -- ---- a call
 
 -- once a run is accepted, so is its page
-pub accepted-page : (setting : Setting) (r : Record) (ram : List ℕ) (v : Verdict) → decisionOf v ≡ runDecision setting r ram → v ≡ Accepted
+pub page-accepted : (setting : Setting) (r : Record) (ram : List ℕ) (v : Verdict) → decisionOf v ≡ runDecision setting r ram → v ≡ Accepted
     → pageFits (setting .program .page) ≡ true
-accepted-page setting r ram v e h = program-accepted (setting .program) (accepted-all setting r ram (sym e ∙ ap decisionOf h) .0) .1
+page-accepted setting r ram v e h = program-accepted (setting .program) (accepted-all setting r ram (sym e ∙ ap decisionOf h) .0) .1

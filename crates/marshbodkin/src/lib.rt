@@ -18,7 +18,8 @@ ghost use Rattle.image.specs.Index.{buildDecision, indexBuilt, replaceDecision,
 ghost use Rattle.image_runs.specs.ImageRuns.{imageSettingOf};
 ghost use Rattle.crossing.specs.Exits.{decodedExit};
 ghost use Rattle.crossing.specs.Numbers.{codeOf, positionOf, largestKind, largestNumber};
-ghost use Rattle.hosting.specs.HostRuns.{answered, hostRun, hostImageRun};
+ghost use Rattle.hosting.specs.Crossed.{answered};
+ghost use Rattle.hosting.specs.HostRuns.{hostRun, hostImageRun};
 ghost use Rattle.marshbodkin.specs.Crossing.{freshDecision, formDecision, formRoom};
 ghost use Rattle.marshbodkin.specs.Version.{libraryVersion};
 use crossing::StopNumbers;

@@ -39,6 +39,23 @@ pub joined : (xs ys : List Rule) (d first second : Decision) → d ≡ whenAccep
     → second ≡ decision ys → d ≡ decision (xs ++ ys)
 joined xs ys d first second e by-first by-second = rw (after xs ys first by-first, ← by-second) e
 
+-- what holds of every line of a table, by its test, number and values, holds of the line that refuses
+abbrev pub Lines : (Bool → ℕ → List ℕ → Type 0) → List Rule → Type 0
+Lines P [] = Unit {0}
+Lines P (rule test n values ∷ rules) = P test n values × Lines P rules
+
+pub refusing-line : (P : Bool → ℕ → List ℕ → Type 0) (rules : List Rule) → Lines P rules → (n : ℕ) (values : List ℕ)
+    → decision rules ≡ refused n values → P true n values
+refusing-line P [] h n values e = absurd (true≢false (ap isAccepted e))
+refusing-line P (rule true k carried ∷ rules) h n values e = rw (number, carries) at (h .0)
+  where
+    number : k ≡ n
+    number = cc
+
+    carries : carried ≡ values
+    carries = cc
+refusing-line P (rule false k carried ∷ rules) h n values e = refusing-line P rules (h .1) n values e
+
 -- ---- values
 
 pub few-values : (r : Refusal) → length (refusalValues r) ≤ 1

@@ -36,8 +36,8 @@ keeps-too Fit Fit′ ServiceHere Known too unlisted h = h
 pub record KeepsAdmitted (m : Machine) : Type 0 where
   -- where a call isn't refused, it isn't after an instruction either; and a listed one starts there
   pub keeps : (r : Record) (ram : List ℕ) → Admits m r ram
-      → Keeps (Admits m) (m .ServiceAt r) (m .Known) (m .instruction (m .setting) r ram)
-  pub starts : (r : Record) (ram : List ℕ) → Admits m r ram → m .Starts r
+      → Keeps (Admits m) (m .kind .ServiceAt (m .setting) r) (m .kind .Known) (m .kind .instruction (m .setting) r ram)
+  pub starts : (r : Record) (ram : List ℕ) → Admits m r ram → m .kind .Starts (m .setting) r
   -- a call meets its contract
   pub meets : (c : m .Call) → m .gave c ≡ called m (m .handed c)
 
@@ -56,6 +56,6 @@ keeps-admitted kind k Call handed gave meets setting = record { keeps = k .keeps
 pub admits-after : (m : Machine) → KeepsAdmitted m → (total : ℕ) (r : Record) (ram : List ℕ) → Admits m r ram
     → Admits m (run m total r ram .rec) (run m total r ram .ram)
 admits-after m k total r ram a =
-    run-keeps (m .instruction (m .setting)) (Admits m)
-    (λ s after b. keeps-leaves (Admits m) (m .ServiceAt s) (m .Known) (m .instruction (m .setting) s after) (k .keeps s after b))
+    run-keeps (m .kind .instruction (m .setting)) (Admits m)
+    (λ s after b. keeps-leaves (Admits m) (m .kind .ServiceAt (m .setting) s) (m .kind .Known) (m .kind .instruction (m .setting) s after) (k .keeps s after b))
     total 0 r ram a

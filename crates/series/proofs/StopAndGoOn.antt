@@ -39,7 +39,7 @@ module _ (m : Machine) (k : KeepsAdmitted m) where
 
   was-admitted : (s : State) (c : m .Call) → From m s c → Spent m c → Admits m (s .rec) (s .ram)
   was-admitted s c h spent =
-      spent-accepted (m .decision (m .setting) (s .rec) (s .ram)) (m .instruction (m .setting)) (m .handed c .budget) (s .rec) (s .ram)
+      spent-accepted (m .kind .decision (m .setting) (s .rec) (s .ram)) (m .kind .instruction (m .setting)) (m .handed c .budget) (s .rec) (s .ram)
       (ap (λ (x : Result). x .stop) (sym (gave-from m k s c h)) ∙ spent)
 
   ran : (s : State) (c : m .Call) → From m s c → Spent m c → m .gave c ≡ run m (m .handed c .budget) (s .rec) (s .ram)
@@ -56,7 +56,7 @@ module _ (m : Machine) (k : KeepsAdmitted m) where
       → (more : ℕ) → later (m .gave c .steps) (givenFrom (gaveState m c) more) ≡ givenFrom s (m .handed c .budget + more)
   goes-farther s c h spent more =
       rw (next-admitted s c h spent, was-admitted s c h spent)
-      (sym (plain-runs.goes-on (m .instruction (m .setting)) (m .handed c .budget) more (s .rec) (s .ram) (m .gave c) (sym (ran s c h spent)) spent))
+      (sym (plain-runs.goes-on (m .kind .instruction (m .setting)) (m .handed c .budget) more (s .rec) (s .ram) (m .gave c) (sym (ran s c h spent)) spent))
 
   -- ---- slices
 
@@ -84,7 +84,7 @@ module _ (m : Machine) (k : KeepsAdmitted m) where
   with-more s c cs longer h other w l =
       let one = as-one s c cs h in
       gave-from m k s longer w
-      ∙ call-ended (m .decision (m .setting) (s .rec) (s .ram)) (m .instruction (m .setting)) (budgets m c cs) (m .handed longer .budget)
+      ∙ call-ended (m .kind .decision (m .setting) (s .rec) (s .ram)) (m .kind .instruction (m .setting)) (budgets m c cs) (m .handed longer .budget)
       (s .rec) (s .ram) (λ spent. other (ap (λ (x : Result). x .stop) one ∙ spent)) l
       ∙ sym one
 

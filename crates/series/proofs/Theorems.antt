@@ -22,7 +22,7 @@ stays false before gave e = refl
 
 module _ (m : Machine) where
   -- what an own call is handed where these stand
-  abbrev pub ownHanded : ℕ → Record → List ℕ → Handed (m .Setting)
+  abbrev pub ownHanded : ℕ → Record → List ℕ → Handed (m .kind .Setting)
   ownHanded total r ram = record { setting = m .setting; budget = total; rec = r; ram = ram }
 
   pub handed-own : (s : State) (c : m .Call) → From m s c
@@ -36,9 +36,9 @@ module _ (m : Machine) (k : KeepsAdmitted m) where
   StopsWell total r ram = StopsBy m (ownHanded m total r ram) (run m total r ram)
 
   -- where the first instruction goes on, a run stops as the rest of it does
-  stops-later : (left : ℕ) (r s : Record) (ram after : List ℕ) → m .instruction (m .setting) r ram ≡ goesOn s after
+  stops-later : (left : ℕ) (r s : Record) (ram after : List ℕ) → m .kind .instruction (m .setting) r ram ≡ goesOn s after
       → (why : Reason) → StopsWell left s after why → StopsWell (suc left) r ram why
-  stops-later left r s ram after e = go (λ n. run-goes-on (m .instruction (m .setting)) n r s ram after e)
+  stops-later left r s ram after e = go (λ n. run-goes-on (m .kind .instruction (m .setting)) n r s ram after e)
     where
       go : ((n : ℕ) → run m (suc n) r ram ≡ later 1 (run m n s after))
           → (why : Reason) → StopsWell left s after why → StopsWell (suc left) r ram why
@@ -54,13 +54,13 @@ module _ (m : Machine) (k : KeepsAdmitted m) where
   stops-well : (left : ℕ) (r : Record) (ram : List ℕ) → Admits m r ram → StopsWell left r ram (run m left r ram .stop)
   unfolding plain
   stops-well zero r ram a = refl
-  stops-well (suc left) r ram a = go (stops-well left) (m .instruction (m .setting) r ram) refl (k .keeps r ram a)
+  stops-well (suc left) r ram a = go (stops-well left) (m .kind .instruction (m .setting) r ram) refl (k .keeps r ram a)
     where
       go : ((s : Record) (after : List ℕ) → Admits m s after → StopsWell left s after (run m left s after .stop))
-          → (e : Effect) → m .instruction (m .setting) r ram ≡ e → Keeps (Admits m) (m .ServiceAt r) (m .Known) e
+          → (e : Effect) → m .kind .instruction (m .setting) r ram ≡ e → Keeps (Admits m) (m .kind .ServiceAt (m .setting) r) (m .kind .Known) e
           → StopsWell (suc left) r ram (run m (suc left) r ram .stop)
       go rest (goesOn s after) e h =
-          let same = ap (λ (x : Result). x .stop) (run-goes-on (m .instruction (m .setting)) left r s ram after e) in
+          let same = ap (λ (x : Result). x .stop) (run-goes-on (m .kind .instruction (m .setting)) left r s ram after e) in
           subst (StopsWell (suc left) r ram) (sym same)
           (stops-later left r s ram after e (run m left s after .stop) (rest s after h))
       go rest (exits exit s after) e h = rw e (omega arith, h .1)
@@ -71,7 +71,7 @@ module _ (m : Machine) (k : KeepsAdmitted m) where
   own-sound total r ram a = record {
     accepted = a;
     stops = stops-well total r ram a;
-    trace = λ i l. (smaller-budget-spent (m .instruction (m .setting)) total i r ram l, k .starts _ _ (admits-after m k i r ram a));
+    trace = λ i l. (smaller-budget-spent (m .kind .instruction (m .setting)) total i r ram l, k .starts _ _ (admits-after m k i r ram a));
   }
 
   -- ---- the series
@@ -111,8 +111,8 @@ module _ (m : Machine) (k : KeepsAdmitted m) where
         leaves = ap stateOf gave;
       }
     where
-      own-there : {h : Handed (m .Setting)} → h ≡ ownHanded m (h .budget) (s .rec) (s .ram) → OwnCall m h (run m (h .budget) (s .rec) (s .ram))
-      own-there {h} e = subst (λ (g : Handed (m .Setting)). OwnCall m g (run m (h .budget) (s .rec) (s .ram))) (sym e) (own-sound (h .budget) (s .rec) (s .ram) a)
+      own-there : {h : Handed (m .kind .Setting)} → h ≡ ownHanded m (h .budget) (s .rec) (s .ram) → OwnCall m h (run m (h .budget) (s .rec) (s .ram))
+      own-there {h} e = subst (λ (g : Handed (m .kind .Setting)). OwnCall m g (run m (h .budget) (s .rec) (s .ram))) (sym e) (own-sound (h .budget) (s .rec) (s .ram) a)
   goes (other seriesRecord seriesRam c) s a h =
       let still = other-stays seriesRecord seriesRam c s h in
       record {

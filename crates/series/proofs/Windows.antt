@@ -128,7 +128,7 @@ module _ (kind : Kind) (inside : WithinWindow kind) (Call : Type 0) (handed : Ca
       ((one, rest .0), rest .1)
     where
       own-window : windowOn m c ≡ ownWindow m
-      own-window = ap (m .window) (g .0)
+      own-window = ap (m .kind .window) (g .0)
 
       rams : EqualInside (ownWindow m) (m .handed c .ram) (m .handed d .ram)
       rams =
@@ -178,7 +178,7 @@ module _ (kind : Kind) (inside : WithinWindow kind) (Call : Type 0) (handed : Ca
         (window-stays w) refused-ram cs (ramAlone ram) h;
     series-stays = λ cs s h.
         rams-stay (gaveState m) (handedState m) (OwnSetting m) (λ c. Refuses m (m .handed c)) (ownWindow m)
-        (λ c e. window-stays (ownWindow m) c (ap (m .window) e)) refused-ram cs s h;
+        (λ c e. window-stays (ownWindow m) c (ap (m .kind .window) e)) refused-ram cs s h;
     equal-calls = calls-equal;
     equal-in-turn = turns-equal;
     equal-series = series-equal;

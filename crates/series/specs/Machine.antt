@@ -36,61 +36,40 @@ abbrev pub calledBy : (kind : Kind) → Handed (kind .Setting) → Result
 calledBy kind h =
     callBy (kind .decision (h .setting) (h .rec) (h .ram)) (kind .instruction (h .setting)) (h .budget) (h .rec) (h .ram)
 
--- what a kind has, `Starts` and `ServiceAt` with the one setting
+-- a machine of a kind, with any calls: what each was handed and what it gave
 pub record Machine : Type 1 where
-  pub Setting : Type 0
+  pub kind : Kind
   -- what a series' own calls and all slices get
-  pub setting : Setting
-  pub instruction : Setting → Record → List ℕ → Effect
-  pub decision : Setting → Record → List ℕ → Decision
-  pub window : Setting → Window
-  pub Starts : Record → Type 0
-  pub ServiceAt : Record → Exit → Type 0
-  pub Known : ℕ → Type 0
-  -- the calls, what each was handed and what it gave
+  pub setting : kind .Setting
   pub Call : Type 0
-  pub handed : Call → Handed Setting
+  pub handed : Call → Handed (kind .Setting)
   pub gave : Call → Result
 
--- a machine of a kind, with any calls
 abbrev pub machineOf : (kind : Kind) (Call : Type 0) → (Call → Handed (kind .Setting)) → (Call → Result) → kind .Setting → Machine
-machineOf kind Call handed gave setting = record {
-  Setting = kind .Setting;
-  setting = setting;
-  instruction = kind .instruction;
-  decision = kind .decision;
-  window = kind .window;
-  Starts = kind .Starts setting;
-  ServiceAt = kind .ServiceAt setting;
-  Known = kind .Known;
-  Call = Call;
-  handed = handed;
-  gave = gave;
-}
+machineOf kind Call handed gave setting = record { kind = kind; setting = setting; Call = Call; handed = handed; gave = gave }
 
 module _ (m : Machine) where
-  abbrev pub decisionOn : Handed (m .Setting) → Decision
-  decisionOn h = m .decision (h .setting) (h .rec) (h .ram)
+  abbrev pub decisionOn : Handed (m .kind .Setting) → Decision
+  decisionOn h = m .kind .decision (h .setting) (h .rec) (h .ram)
 
   -- the papers refuse a call that is handed this, or they don't
-  abbrev pub Refuses : Handed (m .Setting) → Type 0
+  abbrev pub Refuses : Handed (m .kind .Setting) → Type 0
   Refuses h = (n : ℕ) × (values : List ℕ) × (decisionOn h ≡ refused n values)
 
-  abbrev pub Accepts : Handed (m .Setting) → Type 0
+  abbrev pub Accepts : Handed (m .kind .Setting) → Type 0
   Accepts h = decisionOn h ≡ accepted
 
   -- a call with the machine's setting isn't refused from here
   abbrev pub Admits : Record → List ℕ → Type 0
-  Admits r ram = m .decision (m .setting) r ram ≡ accepted
+  Admits r ram = m .kind .decision (m .setting) r ram ≡ accepted
 
   -- refused, its steps are 0 and its stop is the refusal's number with its values; it gives back what it was handed
-  abbrev pub refusedBy : ℕ → List ℕ → Handed (m .Setting) → Result
+  abbrev pub refusedBy : ℕ → List ℕ → Handed (m .kind .Setting) → Result
   refusedBy n values h = record { stop = stops.refused n values; steps = 0; rec = h .rec; ram = h .ram }
 
-  -- as a kind's call
-  abbrev pub called : Handed (m .Setting) → Result
-  called h = callBy (decisionOn h) (m .instruction (h .setting)) (h .budget) (h .rec) (h .ram)
+  abbrev pub called : Handed (m .kind .Setting) → Result
+  called = calledBy (m .kind)
 
   -- a run that isn't refused
   abbrev pub run : ℕ → Record → List ℕ → Result
-  run budget r ram = plain (m .instruction (m .setting)) budget 0 r ram
+  run budget r ram = plain (m .kind .instruction (m .setting)) budget 0 r ram

@@ -37,26 +37,26 @@ module _ (m : Machine) where
   -- ---- the plain machine
 
   -- what it is fed
-  abbrev pub fed : InSeries (m .Call) → InSeries (Handed (m .Setting))
+  abbrev pub fed : InSeries (m .Call) → InSeries (Handed (m .kind .Setting))
   fed (own c) = own (m .handed c)
   fed (other seriesRecord seriesRam c) = other seriesRecord seriesRam (m .handed c)
 
   -- for an own call it runs from its own state with the budget handed
-  abbrev pub plainResult : InSeries (Handed (m .Setting)) → State → Result
+  abbrev pub plainResult : InSeries (Handed (m .kind .Setting)) → State → Result
   plainResult (own h) s = run m (h .budget) (s .rec) (s .ram)
   plainResult (other seriesRecord seriesRam h) s = called m h
 
   -- a refused call keeps the state
-  abbrev pub plainAfter : InSeries (Handed (m .Setting)) → State → State
+  abbrev pub plainAfter : InSeries (Handed (m .kind .Setting)) → State → State
   plainAfter (own h) s = stateOf (plainResult (own h) s)
   plainAfter (other seriesRecord seriesRam h) s = s
 
   -- what it gives for each call
-  unfoldable pub plainResults : List (InSeries (Handed (m .Setting))) → State → List Result
+  unfoldable pub plainResults : List (InSeries (Handed (m .kind .Setting))) → State → List Result
   plainResults [] s = []
   plainResults (h ∷ hs) s = plainResult h s ∷ plainResults hs (plainAfter h s)
 
   -- its state after the last
-  unfoldable pub plainState : List (InSeries (Handed (m .Setting))) → State → State
+  unfoldable pub plainState : List (InSeries (Handed (m .kind .Setting))) → State → State
   plainState [] s = s
   plainState (h ∷ hs) s = plainState hs (plainAfter h s)

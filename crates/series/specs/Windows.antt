@@ -39,12 +39,12 @@ EqualAll w (x ∷ xs) (y ∷ ys) = EqualBut (EqualInside w) x y × EqualAll w xs
 
 module _ (m : Machine) where
   abbrev pub windowOn : m .Call → Window
-  windowOn c = m .window (m .handed c .setting)
+  windowOn c = m .kind .window (m .handed c .setting)
 
   -- ---- calls with the machine's setting
 
   abbrev pub ownWindow : Window
-  ownWindow = m .window (m .setting)
+  ownWindow = m .kind .window (m .setting)
 
   -- states with one record, whose RAMs are equal inside the window
   abbrev pub EqualStates : State → State → Type 0

@@ -47,7 +47,7 @@ pub struct Image<'a> {
 impl<'a> Image<'a> {
     /// The image of these bytes, and the room for its index or one that was built before.
     /// Every direct syscall returns, in the full profile. Any bytes will do here; calls
-    /// refuse them.
+    /// refuse those that won't do.
     pub fn new(image: &'a mut [u8], index: &'a mut [u8]) -> Image<'a> {
         Image {
             image,
@@ -127,7 +127,8 @@ impl<'a> Image<'a> {
     }
 }
 
-/// What a step or a run in a page of an image is given beside RAM, record and budget.
+/// What a step or a run in a page of an image is given beside the page's number, RAM, record
+/// and budget.
 ///
 /// In a series of them all get the same setting and the same page. While there is one, the
 /// image can't be changed.

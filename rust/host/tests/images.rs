@@ -188,48 +188,85 @@ fn check_refused(setting: ImageSetting, number: u32, ram: usize, given: Record, 
     assert!(ram == before);
 }
 
+/// What a run is handed beside image bytes, a record and a window.
+#[derive(Clone, Copy)]
+struct Handed<'a> {
+    /// How many bytes of the image.
+    image: usize,
+    index: &'a [u8],
+    profile: u32,
+    number: u32,
+    /// How many bytes of RAM and of external data.
+    ram: usize,
+    external: usize,
+}
+
+impl Handed<'_> {
+    /// A step and a run are refused, with a window that starts above its end.
+    fn check_refused(self, given: Record, refusal: Refusal) {
+        let (mut bytes, mut index) = (image_bytes(), self.index.to_vec());
+        let image = Image::new(&mut bytes[..self.image], &mut index).profile(self.profile);
+        let external = vec![0; self.external];
+        let backwards = Window { start: 1, end: 0 };
+        let setting = ImageSetting::new(&image)
+            .external(&external)
+            .window(backwards);
+        check_refused(setting, self.number, self.ram, given, refusal);
+    }
+}
+
 /// Everything wrong at first, and then mended part by part.
 #[test]
 fn the_order_of_a_run() {
-    let mut given = Record {
+    let given = Record {
         sp: 3,
         place: 2,
         base: Base::Unknown { kind: 9, offset: 9 },
         ..Record::default()
     };
-    let mut bytes = image_bytes();
-    let short = bytes.len() - 1;
-    let mut index = [1, 0, 2, 1, 0, 0];
-    let backwards = Window { start: 1, end: 0 };
-    let mut check = |length: usize, index: &mut [u8], profile, number, ram, external, refusal| {
-        let image = Image::new(&mut bytes[..length], index).profile(profile);
-        let data = vec![0; external];
-        let setting = ImageSetting::new(&image).external(&data).window(backwards);
-        check_refused(setting, number, ram, given, refusal);
+    check_order_beside_record(given);
+    check_order_in_record(given);
+}
+
+/// All is mended but the record and, last, the window.
+fn check_order_beside_record(given: Record) {
+    let whole = image_bytes().len();
+    let mut handed = Handed {
+        image: whole - 1,
+        index: &[1, 0, 2, 1, 0, 0],
+        profile: 2,
+        number: 5,
+        ram: 1,
+        external: 1,
     };
-    check(short, &mut index, 2, 5, 1, 1, Refusal::UnknownProfile);
-    check(short, &mut index, 0, 5, 1, 1, Refusal::ImageLength);
-    check(short + 1, &mut index, 0, 5, 1, 1, Refusal::NoSuchPage);
-    check(short + 1, &mut index, 0, 0, 1, 1, Refusal::IndexLength);
+    handed.check_refused(given, Refusal::UnknownProfile);
+    handed.profile = 0;
+    handed.check_refused(given, Refusal::ImageLength);
+    handed.image = whole;
+    handed.check_refused(given, Refusal::NoSuchPage);
+    handed.number = 0;
+    handed.check_refused(given, Refusal::IndexLength);
     for (at, byte) in [(0, 0), (0, 2), (2, 1), (4, 1), (4, 255)] {
         let mut wrong = [1, 0, 2, 1, 0];
         wrong[at] = byte;
-        check(short + 1, &mut wrong, 0, 0, 1, 1, Refusal::WrongIndex);
+        let handed = Handed {
+            index: &wrong,
+            ..handed
+        };
+        handed.check_refused(given, Refusal::WrongIndex);
     }
-    let index = &mut index[..5];
-    check(short + 1, index, 0, 0, 1, 1, Refusal::RamLength);
-    check(
-        short + 1,
-        index,
-        0,
-        0,
-        RAM_LENGTH,
-        1,
-        Refusal::ExternalLength,
-    );
-    check(short + 1, index, 0, 0, RAM_LENGTH, 0, Refusal::WindowBounds);
+    handed.index = &[1, 0, 2, 1, 0];
+    handed.check_refused(given, Refusal::RamLength);
+    handed.ram = RAM_LENGTH;
+    handed.check_refused(given, Refusal::ExternalLength);
+    handed.external = 0;
+    handed.check_refused(given, Refusal::WindowBounds);
+}
 
-    let image = Image::new(&mut bytes, index);
+/// The record is mended, all else being right.
+fn check_order_in_record(mut given: Record) {
+    let (mut bytes, mut index) = (image_bytes(), [1, 0, 2, 1, 0]);
+    let image = Image::new(&mut bytes, &mut index);
     let setting = ImageSetting::new(&image);
     let no_record = Refusal::of(255, 36).expect("a refusal");
     check_refused(setting, 0, RAM_LENGTH, given, no_record);

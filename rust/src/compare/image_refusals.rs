@@ -152,57 +152,26 @@ impl Refused<'_> {
     /// An image with these things wrong: of 1 to 4 pages, of which that of the number is
     /// the page that records are made for.
     fn lent(&mut self, wrong: Wrong, time: usize) -> Lent {
+        let mut platform = any_platform(&mut self.random);
+        let (mut bytes, mut number) = self.pages(platform.profile);
         let random = &mut self.random;
-        let mut platform = any_platform(random);
-        let pages = random.between(1, 4);
-        let mut number = random.below(pages);
-        let mut bytes = Vec::new();
-        for at in 0..pages {
-            let page = match at == number {
-                true => refusals::good_page(),
-                false => any_case(random, self.comparison.seed, platform.profile, 0).page,
-            };
-            bytes.extend(page);
-            bytes.resize(PAGE * (at + 1), 0xDE);
-        }
         if wrong.has(12) {
             bytes = wrong_length(random, bytes, time);
         }
         let fresh = fresh_index(&bytes, platform);
-        let mut index = fresh.clone();
         if wrong.has(13) {
-            let pages = index.len();
-            let past = [
-                pages,
-                pages + 1,
-                MOST_PAGES,
-                1 << 16,
-                1 << 24,
-                u32::MAX as usize,
-            ];
-            number = random.pick(&past).max(pages);
+            number = past(random, fresh.len());
         }
-        if wrong.has(21) && !index.is_empty() {
-            let at = random.below(index.len());
-            index[at] ^= random.between(1, 255) as u8;
+        let mut index = fresh.clone();
+        if wrong.has(21) {
+            spoil(random, &mut index);
         }
         if wrong.has(14) {
-            let pages = index.len();
-            let lengths = [
-                0,
-                pages.wrapping_sub(1),
-                pages + 1,
-                pages + 256,
-                PAGE * pages,
-            ];
-            let others = lengths.into_iter().filter(|&length| length < 1 << 22);
-            let others: Vec<usize> = others.filter(|&length| length != pages).collect();
-            index.resize(random.pick(&others), 0);
+            index.resize(another_length(random, fresh.len()), 0);
         }
-        platform.profile = match wrong.has(18) {
-            true => refusals::profile(random, true, time),
-            false => platform.profile,
-        };
+        if wrong.has(18) {
+            platform.profile = refusals::profile(random, true, time);
+        }
         let wrong_byte = index.iter().zip(&fresh).any(|(byte, count)| byte != count);
         Lent {
             images: Images::new(bytes, index),
@@ -212,9 +181,27 @@ impl Refused<'_> {
         }
     }
 
-    /// A build.
+    /// 1 to 4 pages, mostly for a profile, and the number of that which records are made for.
+    fn pages(&mut self, profile: u32) -> (Vec<u8>, usize) {
+        let random = &mut self.random;
+        let pages = random.between(1, 4);
+        let number = random.below(pages);
+        let mut bytes = Vec::new();
+        for at in 0..pages {
+            let page = match at == number {
+                true => refusals::good_page(),
+                false => any_case(random, self.comparison.seed, profile, 0).page,
+            };
+            bytes.extend(page);
+            bytes.resize(PAGE * (at + 1), 0xDE);
+        }
+        (bytes, number)
+    }
+
+    /// A build, over an index without a right byte: a right one that it writes shows.
     fn build(&mut self, wrong: Wrong, time: usize) -> Same {
         let mut lent = self.lent(wrong, time);
+        lent.images.set_all_wrong();
         let papers = wrong.told(&[]).code;
         let (platform, images) = (lent.platform, &mut lent.images);
         self.comparison
@@ -224,9 +211,10 @@ impl Refused<'_> {
         Ok(())
     }
 
-    /// A replacement.
+    /// A replacement, over such an index too.
     fn replace(&mut self, wrong: Wrong, time: usize) -> Same {
         let mut lent = self.lent(wrong, time);
+        lent.images.set_all_wrong();
         let papers = wrong.told(&[]).code;
         let mut page = any_case(&mut self.random, self.comparison.seed, 0, 0).page;
         if wrong.has(1) {
@@ -415,6 +403,30 @@ fn wrong_length(random: &mut Random, mut bytes: Vec<u8>, time: usize) -> Vec<u8>
     };
     bytes.resize(length, 0);
     bytes
+}
+
+/// The number of a page that an image of so many has not.
+fn past(random: &mut Random, pages: usize) -> usize {
+    let most = u32::MAX as usize;
+    let numbers = [pages, pages + 1, MOST_PAGES, 1 << 16, 1 << 24, most];
+    random.pick(&numbers).max(pages)
+}
+
+/// Another byte somewhere in the index, if it has any.
+fn spoil(random: &mut Random, index: &mut [u8]) {
+    if !index.is_empty() {
+        let at = random.below(index.len());
+        index[at] ^= random.between(1, 255) as u8;
+    }
+}
+
+/// A length that the index of so many pages has not.
+fn another_length(random: &mut Random, pages: usize) -> usize {
+    let less = pages.wrapping_sub(1);
+    let lengths = [0, less, pages + 1, pages + 256, PAGE * pages];
+    let others = lengths.into_iter().filter(|&length| length < 1 << 22);
+    let others: Vec<usize> = others.filter(|&length| length != pages).collect();
+    random.pick(&others)
 }
 
 /// What was found with these things wrong.

@@ -71,6 +71,13 @@ impl Images {
         self.second.index[number] = byte;
     }
 
+    /// Other bytes in both indexes: no count, where a count was.
+    pub fn set_all_wrong(&mut self) {
+        for index in [&mut self.library.index, &mut self.second.index] {
+            index.iter_mut().for_each(|byte| *byte = !*byte);
+        }
+    }
+
     /// The code of a page under a platform.
     pub fn code(&self, platform: Platform, number: usize) -> Code<'_> {
         self.second.image(platform).code(number)
@@ -250,7 +257,8 @@ impl Comparison {
         Ok(second)
     }
 
-    /// That both sides of a step or a run are equal, and neither changed its image.
+    /// That both sides of a step or a run are equal, and so are their images still: that
+    /// shows a change of one, not the same change of both.
     fn image_ends(
         &self,
         call: &str,

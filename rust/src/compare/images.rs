@@ -451,48 +451,40 @@ impl<'a> Tried<'a> {
 
     /// The index under another set or profile is wrong, if a count differs there.
     fn another_platform(&mut self) -> Same {
-        let Platform {
-            never_return,
-            profile,
-        } = self.platform;
-        let other_profile = match profile {
+        let own = self.platform;
+        let profile = match own.profile {
             FULL => SMALL,
             _ => FULL,
         };
-        let other_set = sets::any(self.random);
-        for platform in [
-            Platform {
-                never_return,
-                profile: other_profile,
-            },
-            Platform {
-                never_return: other_set,
-                profile,
-            },
-        ] {
-            let number = self.any_number() as u32;
-            let record = stored_bytes(&records::fit(self.random, 0));
-            let handed = InImage {
-                platform,
-                number,
-                external: self.external,
-                window: ranges::any(self.random),
-                record: &record,
-                budget: 3,
-            };
-            let right = is_fresh(&self.images, platform).is_ok();
-            let given = self
-                .comparison
-                .image_run(&handed, &self.images, self.rams)?;
-            if right == (given.numbers.code == 21) {
-                let code = given.numbers.code;
-                return Err(format!("both sides answer {code} under another platform"));
-            }
-            if !right {
-                self.comparison
-                    .tally
-                    .another_platform(platform.profile != profile);
-            }
+        let never_return = sets::any(self.random);
+        self.run_under(Platform { profile, ..own })?;
+        self.run_under(Platform {
+            never_return,
+            ..own
+        })
+    }
+
+    /// A run under a platform, refused by 21 just if the index is wrong there.
+    fn run_under(&mut self, platform: Platform) -> Same {
+        let handed = InImage {
+            platform,
+            number: self.any_number() as u32,
+            external: self.external,
+            record: &stored_bytes(&records::fit(self.random, 0)),
+            window: ranges::any(self.random),
+            budget: 3,
+        };
+        let right = is_fresh(&self.images, platform).is_ok();
+        let given = self
+            .comparison
+            .image_run(&handed, &self.images, self.rams)?;
+        let code = given.numbers.code;
+        if right == (code == 21) {
+            return Err(format!("both sides answer {code} under another platform"));
+        }
+        if !right {
+            let is_profile = platform.profile != self.platform.profile;
+            self.comparison.tally.another_platform(is_profile);
         }
         Ok(())
     }

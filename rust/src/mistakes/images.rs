@@ -1,8 +1,8 @@
 //! Mistakes about images and their indexes.
 
 use crate::second::image::{
-    count_byte, fill, has_wrong_byte, put, Asked, ImageRules, Lent, Test, BYTES, IMAGE, INDEX,
-    LENGTH, MOST_PAGES, NUMBER, PAGE, PROFILE,
+    count_byte, fill, put, Asked, ImageRules, Lent, Test, BYTES, IMAGE, INDEX, LENGTH, MOST_PAGES,
+    NUMBER, PAGE, PROFILE,
 };
 use crate::second::memory::RAM_SIZE;
 use crate::second::page::{Code, NeverReturn};
@@ -51,7 +51,7 @@ macro_rules! with_index {
 }
 
 /// Each mistake's name, and the rules with it.
-pub const MISTAKES: [(&str, ImageRules); 31] = [
+pub const MISTAKES: [(&str, ImageRules); 33] = [
     ("build-12-before-18", build(&[IMAGE, PROFILE, INDEX])),
     ("build-14-before-12", build(&[PROFILE, INDEX, IMAGE])),
     (
@@ -122,6 +122,13 @@ pub const MISTAKES: [(&str, ImageRules); 31] = [
         },
     ),
     (
+        "run-of-page-before",
+        ImageRules {
+            run_page: |number| number.saturating_sub(1),
+            ..RIGHT
+        },
+    ),
+    (
         "page-of-252",
         replace(&[PROFILE, IMAGE, NUMBER, INDEX, LENGTH_BUT_252]),
     ),
@@ -140,14 +147,21 @@ pub const MISTAKES: [(&str, ImageRules); 31] = [
     (
         "refused-page-written",
         ImageRules {
-            refused: page_written,
+            refused_replace: page_written,
             ..RIGHT
         },
     ),
     (
         "refused-byte-written",
         ImageRules {
-            refused: byte_written,
+            refused_replace: byte_written,
+            ..RIGHT
+        },
+    ),
+    (
+        "refused-index-written",
+        ImageRules {
+            refused_build: index_written,
             ..RIGHT
         },
     ),
@@ -215,7 +229,9 @@ const OTHER_BYTES: Test = (21, |asked| {
 });
 
 /// The test ends before the last byte.
-const ALL_BUT_LAST: Test = (21, |asked| has_wrong_byte(asked, asked.image.pages() - 1));
+const ALL_BUT_LAST: Test = (21, |asked| {
+    (0..asked.image.pages() - 1).any(|number| is_wrong(asked, number))
+});
 
 /// It begins behind the first.
 const ALL_BUT_FIRST: Test = (21, |asked| {
@@ -277,6 +293,15 @@ fn page_written(refusal: u8, lent: &mut Lent, number: u32, page: &[u8]) {
 fn byte_written(refusal: u8, lent: &mut Lent, number: u32, _: &[u8]) {
     if refusal == 1 {
         lent.index[number as usize] = 0;
+    }
+}
+
+/// A build that the index's length refuses writes what fits of it.
+fn index_written(rules: Rules, refusal: u8, lent: &mut Lent) {
+    if refusal == 14 {
+        for number in 0..lent.image().pages().min(lent.index.len()) {
+            lent.index[number] = count_byte(rules, lent.image().code(number));
+        }
     }
 }
 

@@ -95,15 +95,14 @@ pub const NUMBER: Test = (13, |asked| asked.number as usize >= asked.image.pages
 /// 14: the index's length.
 pub const INDEX: Test = (14, |asked| asked.image.index.len() != asked.image.pages());
 /// 21: some byte of the index.
-pub const BYTES: Test = (21, |asked| has_wrong_byte(asked, asked.image.pages()));
+pub const BYTES: Test = (21, has_wrong_byte);
 /// 1, here of a page that is not of 256 bytes.
 pub const LENGTH: Test = (1, |asked| asked.page.len() != PAGE);
 
-/// True if, among so many first bytes of the index, one is not its page's count.
-pub fn has_wrong_byte(asked: &Asked, bytes: usize) -> bool {
+/// True if a byte of the index is not its page's count.
+fn has_wrong_byte(asked: &Asked) -> bool {
     let Asked { rules, image, .. } = *asked;
-    let index = image.index.iter().enumerate().take(bytes);
-    let mut known = index.filter(|&(number, _)| number < image.pages());
+    let mut known = image.index.iter().enumerate().take(image.pages());
     known.any(|(number, &byte)| byte != count_byte(rules, image.code(number)))
 }
 
@@ -119,7 +118,7 @@ pub struct ImageRules {
     pub build: &'static [Test],
     /// What refuses a replacement, in order.
     pub replace: &'static [Test],
-    /// What refuses a step or a run, in order, before what follows a lone page's length.
+    /// What refuses a step or a run, in order, before 2.
     pub run: &'static [Test],
     /// The byte that the index gets for a page.
     pub byte: fn(Rules, Code) -> u8,
@@ -127,8 +126,12 @@ pub struct ImageRules {
     pub fill: fn(Rules, &mut Lent),
     /// Puts a page at a number of an image.
     pub put: fn(Rules, &mut Lent, usize, &[u8]),
+    /// What a build that is refused by a number does.
+    pub refused_build: fn(Rules, u8, &mut Lent),
     /// What a replacement that is refused by a number does.
-    pub refused: fn(u8, &mut Lent, u32, &[u8]),
+    pub refused_replace: fn(u8, &mut Lent, u32, &[u8]),
+    /// The page whose bytes a run in a page has.
+    pub run_page: fn(usize) -> usize,
     /// How many bundles of a page are code, as the fit place takes it.
     pub counted: fn(Image, usize) -> u8,
 }
@@ -142,7 +145,9 @@ impl ImageRules {
         byte: count_byte,
         fill,
         put,
-        refused: |_, _, _, _| {},
+        refused_build: |_, _, _| {},
+        refused_replace: |_, _, _, _| {},
+        run_page: |number| number,
         counted: |image, number| image.index[number],
     };
 }
@@ -177,9 +182,12 @@ pub fn build(rules: Rules, lent: &mut Lent) -> Result<(), u8> {
         page: &[],
         ram: 0,
     };
-    first(rules.images.build, &asked)?;
-    (rules.images.fill)(rules, lent);
-    Ok(())
+    let answer = first(rules.images.build, &asked);
+    match answer {
+        Ok(()) => (rules.images.fill)(rules, lent),
+        Err(refusal) => (rules.images.refused_build)(rules, refusal, lent),
+    }
+    answer
 }
 
 /// Replaces a page, or tells why not.
@@ -191,14 +199,12 @@ pub fn replace(rules: Rules, lent: &mut Lent, number: u32, page: &[u8]) -> Resul
         page,
         ram: 0,
     };
-    match first(rules.images.replace, &asked) {
+    let answer = first(rules.images.replace, &asked);
+    match answer {
         Ok(()) => (rules.images.put)(rules, lent, number as usize, page),
-        Err(refusal) => {
-            (rules.images.refused)(refusal, lent, number, page);
-            return Err(refusal);
-        }
+        Err(refusal) => (rules.images.refused_replace)(refusal, lent, number, page),
     }
-    Ok(())
+    answer
 }
 
 /// What a step or a run in an image is given beside the page's number, RAM, record and
@@ -253,7 +259,7 @@ fn accept<'a>(
     let rules = asked.rules;
     first(rules.images.run, asked).map_err(Refusal::plain)?;
     let number = asked.number as usize;
-    let alone = setting.alone(number);
+    let alone = setting.alone((rules.images.run_page)(number));
     let page = (rules.run)(alone.code).map_err(Refusal::plain)?;
     let call = Call {
         rules,

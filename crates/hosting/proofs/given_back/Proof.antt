@@ -1,4 +1,3 @@
-use mathlib.Core.Path.{refl}
 use borrow.Author.Needs.{needs}
 use Rattle.hosting.proofs.given_back.Statement.{statement}
 use Rattle.hosting.proofs.given_back.Tie as tie

@@ -1,5 +1,4 @@
 use native.Mathlib.Omega.{arith}
-use borrow.Author.Needs.{needs}
 use Rattle.image.proofs.Laws.{page-part}
 use Rattle.image.proofs.count_at.Statement.{statement}
 use Rattle.image.proofs.count_at.Tie as tie

@@ -1,4 +1,4 @@
-use borrow.Author.Tests.{lt-leb, le-leb, eq-eqb}
+use borrow.Author.Tests.{lt-leb, le-leb}
 use Rattle.image.specs.Images.{imageFits}
 use Rattle.image.proofs.fits.Statement.{statement}
 use Rattle.image.proofs.fits.Tie as tie

@@ -1,21 +1,13 @@
-use mathlib.Core.Path.{sym, _∙_}
-use borrow.Author.Tests.{eq-eqb, ne-eqb, not-true, not-false}
+use mathlib.Core.List.{[], _∷_}
+use Rattle.refusal.proofs.Theorems.{joined}
+use Rattle.image.specs.Images.{imageOf, imageRules, indexLengthRule}
 use Rattle.image.proofs.of_build.Statement.{statement}
 use Rattle.image.proofs.of_build.Tie as tie
 
 returns : tie.Need-returns
-returns c = rw (sym (c .before .is-known .ensures) ∙ not-true _ (c .if1 .taken))
-
-returns-2 : tie.Need-returns-2
-returns-2 c = rw (sym (c .before .before .before .is-known .ensures) ∙ not-false _ (c .before .before .if1 .left), sym (c .before .fits2 .ensures) ∙ not-true _ (c .if2 .taken))
-
-returns-3 : tie.Need-returns-3
-returns-3 c =
-    rw (sym (c .before .before .before .before .is-known .ensures) ∙ not-false _ (c .before .before .before .if1 .left), sym (c .before .before .fits2 .ensures) ∙ not-false _ (c .before .if2 .left), ne-eqb _ _ (c .if3 .taken))
-
-returns-4 : tie.Need-returns-4
-returns-4 c =
-    rw (sym (c .before .before .before .before .is-known .ensures) ∙ not-false _ (c .before .before .before .if1 .left), sym (c .before .before .fits2 .ensures) ∙ not-false _ (c .before .if2 .left), eq-eqb _ _ (c .if3 .left))
+returns c =
+    let s = c .before .before .before .before .before .args in
+    joined (imageRules (imageOf (s .image .now) (s .index .now) (s .platform))) (indexLengthRule (s .image .now) (s .index .now) ∷ []) _ _ _ (c .first-of .ensures) (c .before .before .of-image .ensures) (c .before .of-index-length .ensures)
 
 pub of-build-spec : {M : Type 1} → statement M
-of-build-spec = tie.close (tie.spec (λ c κs. tt) returns (λ c κs. tt) returns-2 returns-3 returns-4)
+of-build-spec = tie.close (tie.spec (λ c κs. tt) (λ c κs. tt) (λ c κs. tt) returns)

@@ -1,7 +1,7 @@
 use mathlib.Core.List.{[], _∷_}
 use borrow.Author.Needs.{needs}
 use Rattle.refusal.proofs.Theorems.{after, joined}
-use Rattle.image.specs.Images.{imageOf, imageRules}
+use Rattle.image.specs.Images.{imageOf, pageRules}
 use Rattle.image.specs.Index.{indexRule}
 use Rattle.admission.specs.RunRefusals.{lentRules}
 use Rattle.image_runs.proofs.of_areas.Statement.{statement}
@@ -11,13 +11,13 @@ returns : tie.Need-returns
 returns c =
     let s = c .before .before .before .before .before .before .before .before .args in
     let image = imageOf (s .image .now) (s .index .now) (s .platform) in
-    rw (after (imageRules image (s .number)) (indexRule image ∷ lentRules (s .external .now) (s .window) (s .ram .now)) _ (c .before .before .before .of-page .ensures), c .before .why .given .1)
+    rw (after (pageRules image (s .number)) (indexRule image ∷ lentRules (s .external .now) (s .window) (s .ram .now)) _ (c .before .before .before .of-page .ensures), c .before .why .given .1)
 
 returns-2 : tie.Need-returns-2
 returns-2 c =
     let s = c .before .before .before .before .before .before .before .before .before .before .args in
     let image = imageOf (s .image .now) (s .index .now) (s .platform) in
-    rw (after (imageRules image (s .number)) (indexRule image ∷ lentRules (s .external .now) (s .window) (s .ram .now)) _ (c .before .before .before .before .before .of-page .ensures), c .before .before .before .enum-told .given .1)
+    rw (after (pageRules image (s .number)) (indexRule image ∷ lentRules (s .external .now) (s .window) (s .ram .now)) _ (c .before .before .before .before .before .of-page .ensures), c .before .before .before .enum-told .given .1)
     (joined (indexRule image ∷ []) (lentRules (s .external .now) (s .window) (s .ram .now)) _ _ _ (c .first-of .ensures) (c .before .before .of-index .ensures) (c .before .of-lent .ensures))
 
 pub of-areas-spec : {M : Type 1} → statement M

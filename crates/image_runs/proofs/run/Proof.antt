@@ -5,7 +5,7 @@ use Rattle.image.specs.Images.{imageOf}
 use Rattle.plain.proofs.Calls.{refused-call, accepted-call}
 use Rattle.instruction.specs.Instructions.{instructionOf}
 use Rattle.image_runs.specs.ImageRuns.{imageSettingOf, settingAt}
-use Rattle.image_runs.proofs.Theorems.{accepted-page}
+use Rattle.image_runs.proofs.Theorems.{runs-page}
 use Rattle.image_runs.proofs.run.Statement.{statement}
 use Rattle.image_runs.proofs.run.Tie as tie
 
@@ -13,7 +13,7 @@ run-in-requires : tie.Need-run-in-requires
 run-in-requires c κs =
     let s = c .before .before .before .before .before .before .before .before .before .args in
     let setting = imageSettingOf (imageOf (s .image .now) (s .index .now) (s .platform)) (s .external .now) (s .window) in
-    accepted-page setting (s .number) (s .r) (s .ram .now) (sym (c .before .before .before .verdict-of .ensures) ∙ ap decisionOf (c .before .enum-told .given .1)) .inside
+    runs-page setting (s .number) (s .r) (s .ram .now) (sym (c .before .before .before .verdict-of .ensures) ∙ ap decisionOf (c .before .enum-told .given .1)) .inside
 
 returns : tie.Need-returns
 returns c =

@@ -2,7 +2,7 @@ use mathlib.Core.Path.{_∙_}
 use Rattle.platform.specs.Programs.{programOf, settingOf}
 use Rattle.plain.proofs.Calls.{refused-call, accepted-call}
 use Rattle.instruction.specs.Instructions.{instructionOf}
-use Rattle.machine.proofs.Laws.{accepted-page}
+use Rattle.machine.proofs.Laws.{page-accepted}
 use borrow.Author.Needs.{needs}
 use Rattle.machine.proofs.run.Statement.{statement}
 use Rattle.machine.proofs.run.Tie as tie
@@ -19,7 +19,7 @@ returns-2 c =
     let decided = c .before .before .before .before .before .before .verdict-of in
     let told = c .before .before .before .before .enum-told .given .1 in
     accepted-call (instructionOf setting) (s .budget) (s .r) (s .ram .now) (decided .result) _ (decided .ensures) _ told
-    (c .before .before .run-admitted .ensures ∙ rw (accepted-page setting (s .r) (s .ram .now) (decided .result) (decided .ensures) told))
+    (c .before .before .run-admitted .ensures ∙ rw (page-accepted setting (s .r) (s .ram .now) (decided .result) (decided .ensures) told))
 
 pub run-spec : {M : Type 1} → statement M
 run-spec = tie.close (tie.spec (λ c κs. tt) (λ c. search needs) (λ c. search needs) (λ c κs. tt) (λ c. search needs) returns (λ c. search needs) returns-2)
