@@ -16,19 +16,19 @@ of-record-requires c κs =
     let setting = imageSettingOf (imageOf (s .image .now) (s .index .now) (s .platform)) (s .external .now) (s .window) in
     areas-page setting (s .number) (s .ram .now) (sym (c .before .before .of-areas .ensures) ∙ ap decisionOf (c .enum-told .given .1)) .inside
 
-returns : tie.Need-returns
-unfolding imageDecision
-returns c =
-    let s = c .before .before .before .before .before .before .before .before .args in
-    let image = imageOf (s .image .now) (s .index .now) (s .platform) in
-    rw (in-turn (imageAreaRules (imageSettingOf image (s .external .now) (s .window)) (s .number) (s .ram .now)) (recordRules (programAt image (s .number)) (byteOf image (s .number)) (length (s .external .now)) (s .r)), ← c .before .before .before .of-areas .ensures, c .before .areas .given .1)
-
 returns-2 : tie.Need-returns-2
 unfolding imageDecision
 returns-2 c =
     let s = c .before .before .before .before .before .before .before .before .args in
     let image = imageOf (s .image .now) (s .index .now) (s .platform) in
     rw (in-turn (imageAreaRules (imageSettingOf image (s .external .now) (s .window)) (s .number) (s .ram .now)) (recordRules (programAt image (s .number)) (byteOf image (s .number)) (length (s .external .now)) (s .r)), ← c .before .before .before .of-areas .ensures, c .before .enum-told .given .1) (c .of-record .ensures)
+
+returns : tie.Need-returns
+unfolding imageDecision
+returns c =
+    let s = c .before .before .before .before .before .before .before .before .args in
+    let image = imageOf (s .image .now) (s .index .now) (s .platform) in
+    rw (in-turn (imageAreaRules (imageSettingOf image (s .external .now) (s .window)) (s .number) (s .ram .now)) (recordRules (programAt image (s .number)) (byteOf image (s .number)) (length (s .external .now)) (s .r)), ← c .before .before .before .of-areas .ensures, c .before .areas .given .1)
 
 pub verdict-of-spec : {M : Type 1} → statement M
 verdict-of-spec = tie.close (tie.spec (λ c κs. tt) (λ c. search needs) (λ c. search needs) of-record-requires returns returns-2)
