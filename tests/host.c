@@ -1,14 +1,12 @@
 /* The header's calls, against values worked out by hand from 01; the proved calls where bytes or lengths matter that
  * the header's calls cannot hand over. */
+#include "answers.h"
 #include "check.h"
 #include "marshbodkin.h"
 #include "records.h"
 
 #include <stdlib.h>
 #include <string.h>
-
-/* What a call didn't write shows. */
-#define STALE 0xAAAAAAAAu
 
 /* ---- what is lent: bytes in one struct and a record, so that a call's traces are found by comparing all of it */
 
@@ -118,16 +116,9 @@ static void begin(void)
 
 /* ---- the calls with what is lent */
 
-struct answer {
-    uint32_t code;
-    mb_stopped stopped;
-};
-
-static const mb_stopped stale_stop = {STALE, STALE, STALE, STALE, STALE};
-
 static struct answer run(uint32_t budget)
 {
-    struct answer a = {STALE, stale_stop};
+    struct answer a = stale;
     mb_setting on = setting();
     a.code = mb_run(&on, lent.ram, ram_length, &record, budget, &a.stopped);
     return a;
@@ -135,7 +126,7 @@ static struct answer run(uint32_t budget)
 
 static struct answer step(void)
 {
-    struct answer a = {STALE, stale_stop};
+    struct answer a = stale;
     mb_setting on = setting();
     a.code = mb_step(&on, lent.ram, ram_length, &record, &a.stopped);
     return a;
@@ -144,7 +135,7 @@ static struct answer step(void)
 /* The proved run and step, on bytes. The header's step is a run, so that only here is the proved one called. */
 static struct answer raw_run(uint8_t *bytes, size_t length)
 {
-    struct answer a = {STALE, stale_stop};
+    struct answer a = stale;
     mb_stopped *s = &a.stopped;
     a.code = mb_raw_run(lent.page, page_length, never_return, profile, lent.ram, ram_length, lent.external, external_length,
                         window_start, window_end, bytes, length, 10, &s->kind, &s->value, &s->literal, &s->position, &s->steps);
@@ -153,25 +144,12 @@ static struct answer raw_run(uint8_t *bytes, size_t length)
 
 static struct answer raw_step(uint8_t *bytes, size_t length)
 {
-    struct answer a = {STALE, stale_stop};
+    struct answer a = stale;
     mb_stopped *s = &a.stopped;
     a.code = mb_raw_step(lent.page, page_length, never_return, profile, lent.ram, ram_length, lent.external, external_length,
                          window_start, window_end, bytes, length, &s->kind, &s->value, &s->literal, &s->position, &s->steps);
     return a;
 }
-
-static void check_answer(int line, struct answer a, uint32_t code, mb_stopped expected)
-{
-    check(line, "code", a.code, code);
-    check(line, "kind", a.stopped.kind, expected.kind);
-    check(line, "value", a.stopped.value, expected.value);
-    check(line, "literal", a.stopped.literal, expected.literal);
-    check(line, "position", a.stopped.position, expected.position);
-    check(line, "steps", a.stopped.steps, expected.steps);
-}
-
-#define STOPS(got, kind, value, literal, steps) \
-    check_answer(__LINE__, (got), MB_ACCEPTED, (mb_stopped){(kind), (value), (literal), 0, (steps)})
 
 /* What was refused left everything as it was kept. */
 static void check_refusal(int line, struct answer a, uint32_t code, uint32_t position)
@@ -1817,7 +1795,7 @@ static void null_page_and_data(void)
 
 static void null_in_runs(void)
 {
-    mb_stopped stopped = stale_stop;
+    mb_stopped stopped = stale.stopped;
     mb_setting nothing = mb_setting_of(mb_program_of(NULL, 0), NULL, 0), no_data;
     begin();
     no_data = mb_setting_of(program(), NULL, 0);

@@ -1,13 +1,11 @@
 /* The header's calls on images, against values worked out by hand from 02; and the proved step, since the header's is a run. */
+#include "answers.h"
 #include "check.h"
 #include "marshbodkin.h"
 #include "records.h"
 
 #include <stdlib.h>
 #include <string.h>
-
-/* What a call didn't write shows. */
-#define STALE 0xAAAAAAAAu
 
 enum { PAGES = 5 };
 
@@ -117,13 +115,6 @@ static uint32_t replace(void)
     return mb_image_replace(&of, number, lent.page, page_length);
 }
 
-struct answer {
-    uint32_t code;
-    mb_stopped stopped;
-};
-
-static const struct answer stale = {STALE, {STALE, STALE, STALE, STALE, STALE}};
-
 static struct answer run(uint32_t budget)
 {
     struct answer a = stale;
@@ -160,19 +151,6 @@ static struct answer raw_run(uint8_t *bytes, size_t length)
                               &s->value, &s->literal, &s->position, &s->steps);
     return a;
 }
-
-static void check_answer(int line, struct answer a, uint32_t code, mb_stopped expected)
-{
-    check(line, "code", a.code, code);
-    check(line, "kind", a.stopped.kind, expected.kind);
-    check(line, "value", a.stopped.value, expected.value);
-    check(line, "literal", a.stopped.literal, expected.literal);
-    check(line, "position", a.stopped.position, expected.position);
-    check(line, "steps", a.stopped.steps, expected.steps);
-}
-
-#define STOPS(got, kind, value, literal, steps) \
-    check_answer(__LINE__, (got), MB_ACCEPTED, (mb_stopped){(kind), (value), (literal), 0, (steps)})
 
 static void check_refusal(int line, struct answer a, uint32_t code, uint32_t position)
 {

@@ -92,20 +92,23 @@ module _ (b : Building) (m : MeetsBuilding b) where
   accepts : (c : b .Replace) → b .told c ≡ accepted → replaceDecision (b .handed c) (b .number c) (b .page c) ≡ accepted
   accepts c e = sym (m .told c) ∙ e
 
-  keeps-fresh : (c : b .Replace) → b .handed c .index ≡ countsIn (b .handed c) → b .left c .index ≡ countsIn (b .left c)
-  keeps-fresh c fresh = go (b .told c) refl
+  -- what holds of what an accepted call puts, and of what it was handed, holds of what it leaves
+  left-holds : (P : Image → Type 0) (c : b .Replace)
+      → (replaceDecision (b .handed c) (b .number c) (b .page c) ≡ accepted → P (replaced (b .handed c) (b .number c) (b .page c)))
+      → P (b .handed c) → P (b .left c)
+  left-holds P c put kept = go (b .told c) refl
     where
-      go : (d : Decision) → b .told c ≡ d → b .left c .index ≡ countsIn (b .left c)
-      go accepted e = rw (left-accepted c e) (still-fresh (b .handed c) (b .number c) (b .page c) (accepts c e) fresh)
-      go (refused n values) e = rw (left-refused c n values e) fresh
+      go : (d : Decision) → b .told c ≡ d → P (b .left c)
+      go accepted e = subst P (sym (left-accepted c e)) (put (accepts c e))
+      go (refused n values) e = subst P (sym (left-refused c n values e)) kept
+
+  keeps-fresh : (c : b .Replace) → b .handed c .index ≡ countsIn (b .handed c) → b .left c .index ≡ countsIn (b .left c)
+  keeps-fresh c fresh =
+      left-holds (λ x. x .index ≡ countsIn x) c (λ e. still-fresh (b .handed c) (b .number c) (b .page c) e fresh) fresh
 
   -- a call changes no platform
   platform-stays : (c : b .Replace) → SamePlatform (b .left c) (b .handed c)
-  platform-stays c = go (b .told c) refl
-    where
-      go : (d : Decision) → b .told c ≡ d → SamePlatform (b .left c) (b .handed c)
-      go accepted e = rw (left-accepted c e) (refl, refl)
-      go (refused n values) e = rw (left-refused c n values e) (refl, refl)
+  platform-stays c = left-holds (λ x. SamePlatform x (b .handed c)) c (λ e. (refl, refl)) (refl, refl)
 
   module _ (first : Image) where
     -- what stands has a right index, under the platform that it was built with
@@ -144,35 +147,27 @@ module _ (b : Building) (m : MeetsBuilding b) where
         still : leftBy (λ x. standing (b .left x)) (other rowImage rowIndex c) s ≡ s
         still = λ i. record { rec = bytes i; ram = index i }
 
-  -- what each call changes, refused or not
-  module _ (c : b .Replace) (q : ℕ) (apart : q ≡ b .number c → ⊥) where
-    page-stays : pageAt (b .left c .bytes) q ≡ pageAt (b .handed c .bytes) q
-    page-stays = go (b .told c) refl
-      where
-        go : (d : Decision) → b .told c ≡ d → pageAt (b .left c .bytes) q ≡ pageAt (b .handed c .bytes) q
-        go accepted e =
-            let h = replace-accepted (b .handed c) (b .number c) (b .page c) (accepts c e) in
-            ap (λ (x : Image). pageAt (x .bytes) q) (left-accepted c e)
-            ∙ other-page (b .handed c .bytes) (b .page c) (b .number c) q (h .1) (h .0 .inside) apart
-        go (refused n values) e = ap (λ (x : Image). pageAt (x .bytes) q) (left-refused c n values e)
+  -- what a call doesn't change, refused or not
+  page-stays : (c : b .Replace) (q : ℕ) → (q ≡ b .number c → ⊥) → pageAt (b .left c .bytes) q ≡ pageAt (b .handed c .bytes) q
+  page-stays c q apart =
+      left-holds (λ x. pageAt (x .bytes) q ≡ pageAt (b .handed c .bytes) q) c
+      (λ e.
+      let h = replace-accepted (b .handed c) (b .number c) (b .page c) e in
+      other-page (b .handed c .bytes) (b .page c) (b .number c) q (h .1) (h .0 .inside) apart)
+      refl
 
-    byte-stays : byteOf (b .left c) q ≡ byteOf (b .handed c) q
-    byte-stays = go (b .told c) refl
-      where
-        go : (d : Decision) → b .told c ≡ d → byteOf (b .left c) q ≡ byteOf (b .handed c) q
-        go accepted e = ap (λ (x : Image). byteOf x q) (left-accepted c e) ∙ getD-set-other (b .handed c .index) (b .number c) q _ 0 apart
-        go (refused n values) e = ap (λ (x : Image). byteOf x q) (left-refused c n values e)
+  byte-stays : (c : b .Replace) (q : ℕ) → (q ≡ b .number c → ⊥) → byteOf (b .left c) q ≡ byteOf (b .handed c) q
+  byte-stays c q apart =
+      left-holds (λ x. byteOf x q ≡ byteOf (b .handed c) q) c (λ e. getD-set-other (b .handed c .index) (b .number c) q _ 0 apart) refl
 
   lengths-stay : (c : b .Replace)
       → (length (b .left c .bytes) ≡ length (b .handed c .bytes)) × (length (b .left c .index) ≡ length (b .handed c .index))
-  lengths-stay c = go (b .told c) refl
-    where
-      go : (d : Decision) → b .told c ≡ d
-          → (length (b .left c .bytes) ≡ length (b .handed c .bytes)) × (length (b .left c .index) ≡ length (b .handed c .index))
-      go accepted e =
-          let h = replace-accepted (b .handed c) (b .number c) (b .page c) (accepts c e) in
-          rw (left-accepted c e) (put-length (b .handed c .bytes) (b .page c) (b .number c) (h .1) (h .0 .inside), length-set (b .handed c .index) (b .number c) _)
-      go (refused n values) e = rw (left-refused c n values e) (refl, refl)
+  lengths-stay c =
+      left-holds (λ x. (length (x .bytes) ≡ length (b .handed c .bytes)) × (length (x .index) ≡ length (b .handed c .index))) c
+      (λ e.
+      let h = replace-accepted (b .handed c) (b .number c) (b .page c) e in
+      (put-length (b .handed c .bytes) (b .page c) (b .number c) (h .1) (h .0 .inside), length-set (b .handed c .index) (b .number c) _))
+      (refl, refl)
 
   pub replacements : Replacements b
   replacements = record {

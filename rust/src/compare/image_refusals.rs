@@ -278,16 +278,7 @@ impl Refused<'_> {
         let ran = self.comparison.image_run(handed, images, &mut rams)?;
         let step = handed.with_budget(1);
         let stepped = self.comparison.image_step(&step, images, &mut rams)?;
-        for (call, given) in [("run", ran), ("step", stepped)] {
-            given.told().held_to(papers, call)?;
-            let untouched = given.record == handed.record && rams.library == ram;
-            if papers != Told::ACCEPTED && !untouched {
-                return Err(format!(
-                    "{call}: both sides refuse, but change record or RAM"
-                ));
-            }
-        }
-        Ok(())
+        refusals::told_as_papers([ran, stepped], papers, handed.record, rams.library == ram)
     }
 
     /// Lengths of an image around what is allowed, with an index of as many bytes as it has

@@ -5,7 +5,7 @@
 use super::codes::{self, UNKNOWN};
 use super::ranges::{self, ALLOWED, REFUSED};
 use super::records::{self, SPOILS};
-use super::sides::{Handed, Rams, Told, NO_RECORD};
+use super::sides::{Given, Handed, Rams, Told, NO_RECORD};
 use super::steps::noise;
 use super::{Comparison, Same};
 use crate::assemble::{self as asm, page_bytes};
@@ -224,9 +224,20 @@ fn run_and_step(
     let ram = rams.library.clone();
     let ran = comparison.run(handed, rams)?;
     let stepped = comparison.step(&handed.with_budget(1), rams)?;
-    for (call, given) in [("run", ran), ("step", stepped)] {
+    told_as_papers([ran, stepped], papers, handed.record, rams.library == ram)
+}
+
+/// What a run and a step gave is what the papers say. Refused, they leave the record as
+/// it was handed, and RAM.
+pub fn told_as_papers(
+    ran_and_stepped: [Given; 2],
+    papers: Told,
+    record: &[u8],
+    same_ram: bool,
+) -> Same {
+    for (call, given) in ["run", "step"].into_iter().zip(ran_and_stepped) {
         given.told().held_to(papers, call)?;
-        let untouched = given.record == handed.record && rams.library == ram;
+        let untouched = given.record == record && same_ram;
         if papers != Told::ACCEPTED && !untouched {
             return Err(format!(
                 "{call}: both sides refuse, but change record or RAM"
