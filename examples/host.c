@@ -185,9 +185,9 @@ static void cycle(host *h, unsigned first, unsigned number)
     } while (goes_on(h, &stopped));
 }
 
-/* Between cycles the record is 50 bytes, which a file would take; over a slow link it goes packed. What is damaged on the way
- * and out of range then is told by its field, here the flags, behind which FP and page stand, each 0 and so of one byte;
- * nothing is unpacked, and the bytes are sent once more. */
+/* Between cycles the record is 44 bytes, which a file would take; over a slow link it goes packed. What is damaged on the way
+ * and out of range then is told by its field, here the flags, which stand last; nothing is unpacked, and the bytes are sent
+ * once more. */
 static void over_a_link(mb_record *record)
 {
     uint8_t stored[MB_RECORD_BYTES], sent[MB_SHORT_MOST];
@@ -198,12 +198,12 @@ static void over_a_link(mb_record *record)
     mb_pack(stored, sizeof stored, sent, sizeof sent, &length, &refused);
     require(refused.number, refused.position);
     printf("packed %u bytes\n", (unsigned)length);
-    sent[length - 3] ^= 16;
+    sent[length - 1] ^= 16;
     if (mb_unpack(sent, length, stored, sizeof stored, &refused) != MB_ACCEPTED) {
         printf("damaged: ");
         tell_refusal(stdout, refused.number, refused.position);
     }
-    sent[length - 3] ^= 16;
+    sent[length - 1] ^= 16;
     mb_unpack(sent, length, stored, sizeof stored, &refused);
     require(refused.number, refused.position);
     mb_load(stored, sizeof stored, record, &refused);
@@ -225,8 +225,7 @@ static void in_an_image(host *h)
     printf("image: counts %u %u\n", counts[0], counts[1]);
     setting = mb_image_setting_of(image, h->setting.external, h->setting.external_length);
     h->record = mb_fresh();
-    h->record.page = 1;
-    require(mb_image_run(&setting, h->ram, sizeof h->ram, &h->record, SLICE, &stopped), stopped.position);
+    require(mb_image_run(&setting, 1, h->ram, sizeof h->ram, &h->record, SLICE, &stopped), stopped.position);
     asked = mb_exit_of(&stopped);
     printf("page 1: %s %u after %u steps\n", mb_exit_words(asked.kind), asked.number, stopped.steps);
 }

@@ -24,10 +24,10 @@
  * - it calls nothing outside itself, not even the C library;
  * - it is for x86-64 with the System V calling convention.
  *
- * In a series of steps and runs, hand each call the same setting, and record and RAM
- * exactly as the call before left them: what is proved of a series is proved of such. A
- * record or a setting that the host changes, or a page that it replaces, starts a new
- * series.
+ * In a series of steps and runs, hand each call the same setting, in an image the
+ * same page number, and record and RAM exactly as the call before left them: what is
+ * proved of a series is proved of such. A record, a setting or a page number that the
+ * host changes, or a page that it replaces, starts a new series.
  */
 #ifndef MARSHBODKIN_H
 #define MARSHBODKIN_H
@@ -42,16 +42,13 @@
  * it against mb_version() before any other call: the archive of another version
  * takes other arguments, and the linker doesn't see it.
  *
- * A host of 0.8 is compiled anew. An mb_record has fp and page, both 0 in a fresh one. A
- * stored record is 50 bytes, in the short form 14 to 54: one of 0.8 is refused, and with
- * six bytes of 0 behind it, in the short form two, it is one of 0.9. A host without images
- * needs no more than that, since runs of a lone page neither look at fp and page nor change
- * them. mb_image_run and mb_image_step take no page number: they run from the record's
- * page, and 13 is for that. Calls into the image and returns through a frame, which were
- * exits, are steps there, with the faults 8, 9 and 10 and the refusal 45; and 255 is
- * answered before 13. */
+ * A host of 0.7 is compiled anew, and its text stays: none of its calls changed, none of
+ * their structs and none of their answers. New are images: mb_image, mb_image_setting
+ * and four calls, mb_image_build, mb_image_replace, mb_image_run and mb_image_step. These
+ * alone answer with 12, 13, 14 and 21; and from mb_image_replace 1 says that the page
+ * isn't MB_IMAGE_PAGE_BYTES. MB_STACK_BYTES was 1024: a run takes more stack. */
 #define MB_VERSION_MAJOR 0
-#define MB_VERSION_MINOR 9
+#define MB_VERSION_MINOR 8
 #define MB_VERSION_PATCH 0
 #define MB_VERSION (65536u * MB_VERSION_MAJOR + 256u * MB_VERSION_MINOR + MB_VERSION_PATCH)
 
@@ -63,9 +60,9 @@ extern "C" {
 
 /* Sizes in bytes, but for the pages of an image. */
 enum {
-    MB_RECORD_BYTES = 50,        /* a stored record */
-    MB_SHORT_LEAST = 14,         /* a stored record in the short form: from this .. */
-    MB_SHORT_MOST = 54,          /* .. to this */
+    MB_RECORD_BYTES = 44,        /* a stored record */
+    MB_SHORT_LEAST = 12,         /* a stored record in the short form: from this .. */
+    MB_SHORT_MOST = 49,          /* .. to this */
     MB_RAM_BYTES = 32768,
     MB_BUNDLE_BYTES = 4,
     MB_PAGE_MOST = 256,          /* and whole bundles */
@@ -93,7 +90,7 @@ enum {
     MB_REFUSED_NOT_GROUPED = 9,        /* of a short form */
     MB_REFUSED_ROOM_TOO_SMALL = 10,    /* for what is to be written */
     MB_REFUSED_IMAGE_LENGTH = 12,      /* not 1 to 4096 pages of 256 bytes */
-    MB_REFUSED_NO_SUCH_PAGE = 13,      /* in a step and a run: the record's */
+    MB_REFUSED_NO_SUCH_PAGE = 13,
     MB_REFUSED_INDEX_LENGTH = 14,      /* not one byte a page */
     MB_REFUSED_UNKNOWN_PROFILE = 18,
     MB_REFUSED_WINDOW_BOUNDS = 20,     /* starts above its end or ends above 32768 */
@@ -102,14 +99,13 @@ enum {
     MB_REFUSED_SP_ALIGNMENT = 42,      /* no multiple of 4 */
     MB_REFUSED_RAM_OFFSET = 43,        /* 2^20 or more */
     MB_REFUSED_EXTERNAL_OFFSET = 44,   /* not below the external data's length */
-    MB_REFUSED_UNFIT_FP = 45,          /* neither 0 nor a multiple of 4 from 0x10000 to 0x17FE0 */
     /* The library's own, of a step and a run: a base kind above 2 (at position
-     * MB_AT_BASE_KIND), or an offset with MB_BASE_NONE (at MB_AT_BASE_OFFSET). On a
-     * lone page it stands after 20, before 41; in an image after 12, before 13. */
+     * MB_AT_BASE_KIND), or an offset with MB_BASE_NONE (at MB_AT_BASE_OFFSET). It
+     * stands after 20, before 41. */
     MB_REFUSED_NO_RECORD = 255
 };
 
-/* Positions: where the fields of a record begin in its 50 bytes. With 7 and 255 a
+/* Positions: where the fields of a record begin in its 44 bytes. With 7 and 255 a
  * call tells that of the first field that fails. r0 to r7 fail in mb_unpack alone,
  * by a number of 2^32 or more. So with 7 the position 0 is r0; with any other answer
  * it is what the call gives where it tells no field. */
@@ -119,9 +115,7 @@ enum {
     MB_AT_BASE_KIND = 36,
     MB_AT_BASE_OFFSET = 37,
     MB_AT_PLACE = 41,
-    MB_AT_FLAGS = 43, /* 8N + 4Z + 2C + V */
-    MB_AT_FP = 44,
-    MB_AT_PAGE = 48
+    MB_AT_FLAGS = 43 /* 8N + 4Z + 2C + V */
 };
 
 /* Profiles: which of the listed encodings there are. Any other number is refused (18). */
@@ -146,7 +140,7 @@ enum {
     MB_STOP_REFUSED = 5             /* value: what the call answers; position with 255 */
 };
 
-/* Faults: 01's, that of a window, and those of calls and returns in an image. */
+/* Faults: 01's, and that of a window. */
 enum {
     MB_FAULT_NO_BASE = 1,           /* or external base where RAM is needed */
     MB_FAULT_PAST_RAM = 2,
@@ -154,14 +148,10 @@ enum {
     MB_FAULT_PAST_STACK = 4,        /* stack access past 0x18000 */
     MB_FAULT_LOW_STACK = 5,         /* SP below 0x10000 */
     MB_FAULT_PAST_PAGE = 6,         /* literal load past the page */
-    MB_FAULT_OUTSIDE_WINDOW = 7,    /* access to RAM outside the window */
-    MB_FAULT_UNFIT_PLACE = 8,       /* called or returned-to place not fit */
-    MB_FAULT_LOW_FRAME = 9,         /* frame or SP of a call below 0x10000 */
-    MB_FAULT_UNFIT_FRAME = 10       /* saved FP neither 0 nor a frame in RAM */
+    MB_FAULT_OUTSIDE_WINDOW = 7     /* access to RAM outside the window */
 };
 
-/* What a service exit asks of the host, and the parts that say more of it. In an image
- * a call is one only if its target is outside, and a return only if FP is 0. */
+/* What a service exit asks of the host, and the parts that say more of it. */
 enum {
     MB_EXIT_NONE = 0,               /* no exit, or a bad service */
     MB_EXIT_RETURN = 1,
@@ -181,7 +171,7 @@ enum {
 /* ---- The proved calls
  *
  * The archive's functions as they are proved, over bytes and numbers, with a
- * record as the 50 bytes of docs/MACHINE.md's stored form, never_return and
+ * record as the 44 bytes of docs/MACHINE.md's stored form, never_return and
  * profile as mb_program and mb_image have them, and the window as mb_setting has it.
  * No pointer may be null, not even where the length is 0. A host uses the calls
  * further below, which are over these. */
@@ -197,12 +187,12 @@ uint32_t mb_raw_read_bundle(const uint8_t *page, size_t page_length, uint64_t ne
 uint32_t mb_raw_validate(uint32_t v, const uint8_t *external, size_t external_length,
                          uint32_t *kind, uint32_t *offset);
 
-/* Refused (6): the length isn't 50. */
+/* Refused (6): the length isn't 44. */
 uint32_t mb_raw_fresh(uint8_t *record, size_t record_length);
 
 /* This call and the five below write *position whatever they answer: with 7 and
  * 255 that of the first field that fails, else 0, with 255 too where the bytes
- * aren't 50. Refused (6, 7), as mb_store and mb_load; the record's length is tested
+ * aren't 44. Refused (6, 7), as mb_store and mb_load; the record's length is tested
  * too (6). */
 uint32_t mb_raw_store(const uint8_t *record, size_t record_length,
                       uint8_t *room, size_t room_length, uint32_t *position);
@@ -219,7 +209,7 @@ uint32_t mb_raw_unpack(const uint8_t *packed, size_t packed_length,
                        uint8_t *room, size_t room_length, uint32_t *position);
 
 /* The record crosses without the stored form's range tests, so that one that
- * isn't fit is refused by 41 to 44 or 5. Bytes that hold no record (255) are not 50
+ * isn't fit is refused by 41 to 44 or 5. Bytes that hold no record (255) are not 44
  * (position 0), or have a base kind above 2 (36), an offset though the kind is none
  * (37), or flags above 15 (43). */
 uint32_t mb_raw_run(const uint8_t *page, size_t page_length, uint64_t never_return,
@@ -247,11 +237,10 @@ uint32_t mb_raw_image_replace(uint8_t *image, size_t image_length,
                               uint64_t never_return, uint32_t profile, uint32_t number,
                               const uint8_t *page, size_t page_length);
 
-/* This and the next take the record, and write the five numbers, as mb_raw_run. One that
- * isn't fit is refused by 13 or 45 too. */
+/* This and the next take the record, and write the five numbers, as mb_raw_run. */
 uint32_t mb_raw_image_run(const uint8_t *image, size_t image_length,
                           const uint8_t *index, size_t index_length,
-                          uint64_t never_return, uint32_t profile,
+                          uint64_t never_return, uint32_t profile, uint32_t number,
                           uint8_t *ram, size_t ram_length,
                           const uint8_t *external, size_t external_length,
                           uint32_t window_start, uint32_t window_end,
@@ -261,7 +250,7 @@ uint32_t mb_raw_image_run(const uint8_t *image, size_t image_length,
 
 uint32_t mb_raw_image_step(const uint8_t *image, size_t image_length,
                            const uint8_t *index, size_t index_length,
-                           uint64_t never_return, uint32_t profile,
+                           uint64_t never_return, uint32_t profile, uint32_t number,
                            uint8_t *ram, size_t ram_length,
                            const uint8_t *external, size_t external_length,
                            uint32_t window_start, uint32_t window_end,
@@ -323,7 +312,7 @@ typedef struct {
     uint32_t profile;
 } mb_image;
 
-/* What a filter in an image runs on, RAM aside. By mb_image_setting_of, after
+/* What a filter in a page of an image runs on, RAM aside. By mb_image_setting_of, after
  * which the host may set the window, as in an mb_setting. */
 typedef struct {
     mb_image image;
@@ -345,8 +334,6 @@ typedef struct {
     mb_base base;
     uint16_t place; /* of a halfword: twice the bundle's number, for its first */
     bool n, z, c, v;
-    uint32_t fp;   /* the address of the current frame, 0 for none */
-    uint16_t page; /* of an image, from 0, that the place is in */
 } mb_record;
 
 /* What a step or a run came to. By mb_nothing_run. */
@@ -418,8 +405,6 @@ static inline void mb_internal_to_bytes(const mb_record *record, uint8_t *bytes)
     mb_internal_put(bytes + MB_AT_BASE_OFFSET, 4, record->base.offset);
     mb_internal_put(bytes + MB_AT_PLACE, 2, record->place);
     mb_internal_put(bytes + MB_AT_FLAGS, 1, flags);
-    mb_internal_put(bytes + MB_AT_FP, 4, record->fp);
-    mb_internal_put(bytes + MB_AT_PAGE, 2, record->page);
 }
 
 static inline void mb_internal_from_bytes(const uint8_t *bytes, mb_record *record)
@@ -435,8 +420,6 @@ static inline void mb_internal_from_bytes(const uint8_t *bytes, mb_record *recor
     record->z = (flags & 4u) != 0;
     record->c = (flags & 2u) != 0;
     record->v = (flags & 1u) != 0;
-    record->fp = mb_internal_get(bytes + MB_AT_FP, 4);
-    record->page = (uint16_t)mb_internal_get(bytes + MB_AT_PAGE, 2);
 }
 
 static inline uint32_t mb_internal_said(uint32_t answer, uint32_t position, mb_refused *refused)
@@ -618,7 +601,7 @@ static inline uint32_t mb_unpack(const uint8_t *packed, size_t packed_length, ui
 /* Runs a record with a budget of steps. Refused (18, 1, 2, 3, 20, 255, 41, 42, 43, 44, 5):
  * 0 steps. After MB_STOP_BUDGET call again with record and RAM as they came back: such
  * slices end as one run with the sum of their budgets, at most 4,294,967,295, would, and
- * their steps add up. The record's fp and page are neither looked at nor changed. */
+ * their steps add up. */
 static inline uint32_t mb_run(const mb_setting *setting, uint8_t *ram, size_t ram_length,
                               mb_record *record, uint32_t budget, mb_stopped *stopped)
 {
@@ -670,16 +653,12 @@ static inline uint32_t mb_image_replace(const mb_image *image, uint32_t number, 
                                 mb_internal_read(page, page_length, &own[2]), page_length);
 }
 
-/* Runs a record from its page of the image: as mb_run does in that page alone, up to the
- * first call into the image or return with FP other than 0. These are ordinary steps: a
- * call puts a frame of eight words below SP, where fp then is, and goes to the page and the
- * place of its target; a tail call saves nothing; a return goes back by the frame at fp. A
- * call out of the image, a return with FP 0 and a long branch are exits. Literals are those
- * of the page that the place is in. Refused (18, 12, 255, 13, 14, 21, 2, 3, 20, 41, 42, 43,
- * 44, 45, 5): 0 steps. 21 says that some byte of the index isn't its page's count
+/* Runs a record in the page with that number, from 0: as mb_run does in that page alone,
+ * literals, branches and exits included. Refused (18, 12, 13, 14, 21, 2, 3, 20, 255, 41,
+ * 42, 43, 44, 5): 0 steps. 21 says that some byte of the index isn't its page's count
  * under never_return and profile, be it of this page or another. So every run counts
  * every page of the image: a long slice costs that once, many short ones each time. */
-static inline uint32_t mb_image_run(const mb_image_setting *setting, uint8_t *ram, size_t ram_length,
+static inline uint32_t mb_image_run(const mb_image_setting *setting, uint32_t number, uint8_t *ram, size_t ram_length,
                                     mb_record *record, uint32_t budget, mb_stopped *stopped)
 {
     const mb_image *image = &setting->image;
@@ -688,7 +667,7 @@ static inline uint32_t mb_image_run(const mb_image_setting *setting, uint8_t *ra
     mb_internal_to_bytes(record, bytes);
     answer = mb_raw_image_run(mb_internal_read(image->image, image->image_length, &own[0]), image->image_length,
                               mb_internal_read(image->index, image->index_length, &own[1]), image->index_length,
-                              image->never_return, image->profile,
+                              image->never_return, image->profile, number,
                               mb_internal_written(ram, ram_length, &own[2]), ram_length,
                               mb_internal_read(setting->external, setting->external_length, &own[3]),
                               setting->external_length, setting->window_start, setting->window_end,
@@ -700,10 +679,10 @@ static inline uint32_t mb_image_run(const mb_image_setting *setting, uint8_t *ra
 
 /* One step: a run with budget 1, as mb_raw_image_step is proved to be. It too counts every
  * page. */
-static inline uint32_t mb_image_step(const mb_image_setting *setting, uint8_t *ram, size_t ram_length,
+static inline uint32_t mb_image_step(const mb_image_setting *setting, uint32_t number, uint8_t *ram, size_t ram_length,
                                      mb_record *record, mb_stopped *stopped)
 {
-    return mb_image_run(setting, ram, ram_length, record, 1, stopped);
+    return mb_image_run(setting, number, ram, ram_length, record, 1, stopped);
 }
 
 /* ---- Exits */
@@ -734,7 +713,7 @@ static inline const char *mb_refusal_words(uint32_t number)
     case MB_REFUSED_RAM_LENGTH: return "RAM is not 32768 bytes";
     case MB_REFUSED_EXTERNAL_LENGTH: return "external data is above 16777216 bytes or no multiple of 256";
     case MB_REFUSED_UNFIT_PLACE: return "place is not fit";
-    case MB_REFUSED_FORM_LENGTH: return "stored form, or the room lent for it, is not 50 bytes";
+    case MB_REFUSED_FORM_LENGTH: return "stored form, or the room lent for it, is not 44 bytes";
     case MB_REFUSED_FORM_RANGE: return "stored or given record is out of range";
     case MB_REFUSED_NO_SUCH_BUNDLE: return "asked bundle is not in the page";
     case MB_REFUSED_NOT_GROUPED: return "short form is not in shortest groups, is cut off or is followed by bytes";
@@ -749,7 +728,6 @@ static inline const char *mb_refusal_words(uint32_t number)
     case MB_REFUSED_SP_ALIGNMENT: return "SP is no multiple of 4";
     case MB_REFUSED_RAM_OFFSET: return "RAM offset is not below 2^20";
     case MB_REFUSED_EXTERNAL_OFFSET: return "external offset is not below the external data's length";
-    case MB_REFUSED_UNFIT_FP: return "FP is neither 0 nor a frame in RAM";
     case MB_REFUSED_NO_RECORD: return "bytes hold no record";
     default: return "unknown";
     }
@@ -773,8 +751,6 @@ static inline const char *mb_field_words(uint32_t position)
     case MB_AT_BASE_OFFSET: return "base offset";
     case MB_AT_PLACE: return "place";
     case MB_AT_FLAGS: return "flags";
-    case MB_AT_FP: return "FP";
-    case MB_AT_PAGE: return "page";
     default: return "unknown";
     }
 }
@@ -789,9 +765,6 @@ static inline const char *mb_fault_words(uint32_t number)
     case MB_FAULT_LOW_STACK: return "SP below 0x10000";
     case MB_FAULT_PAST_PAGE: return "literal load past the page";
     case MB_FAULT_OUTSIDE_WINDOW: return "access to RAM outside the window";
-    case MB_FAULT_UNFIT_PLACE: return "called or returned-to place not fit";
-    case MB_FAULT_LOW_FRAME: return "frame or SP of a call below 0x10000";
-    case MB_FAULT_UNFIT_FRAME: return "saved FP neither 0 nor a frame in RAM";
     default: return "unknown";
     }
 }

@@ -51,13 +51,12 @@ broken refusals base-one-off budget-after profile-after-length \
     alignment-before-bounds external-by-most place-before-external \
     position-in-fields no-record-at-sp no-record-at-last \
     window-before-external window-after-no-record window-after-sp window-end-cut
-broken fields place-128 last-failing-field none-offset-at-kind \
-    lone-page-changes-page lone-page-tests-fp stored-page-4096 stored-fp-17fe4 fp-not-stored page-not-stored
+broken fields place-128 last-failing-field none-offset-at-kind
 broken packing groups-of-eight highest-group-first five-groups-refused offset-with-none sp-as-it-stands \
-    fp-in-words fp-from-the-end room-one-less room-for-the-longest room-cleared room-before-range
+    room-one-less room-for-the-longest room-cleared room-before-range
 broken unpacking padded-group six-groups unknown-without-offset sp-one-below bytes-behind \
     range-before-groups last-number position-in-numbers \
-    register-cut kind-cut offset-cut place-cut flags-cut fp-cut page-cut page-12-bits groups-before-room
+    register-cut kind-cut offset-cut place-cut flags-cut groups-before-room
 broken syscalls lt-from-n
 broken exits imm15-unshifted
 broken slices budget-cut
@@ -68,16 +67,5 @@ broken images byte-of-page-before run-of-page-before own-byte-alone own-byte-unc
 broken image-refusals build-12-before-18 build-14-before-12 \
     replace-12-before-18 replace-13-before-12 replace-14-before-13 replace-1-before-14 replace-1-first \
     run-12-before-18 run-13-before-12 run-14-before-13 run-21-before-14 run-2-before-21 \
-    run-255-before-12 run-13-before-255 run-255-after-20 run-45-before-44 run-5-before-45 run-without-45 \
     pages-4097 no-page refused-index-written
-broken links pc-and-fp-exchanged r7-lowest saved-registers-reversed saved-pc-of-the-call \
-    fp-at-first-local sp-less-n call-keeps-sp call-keeps-base call-outside-faults call-without-8 call-by-own-byte \
-    call-9-before-8 call-7-before-9 call-7-before-8 call-writes-what-it-can \
-    tail-call-saves tail-call-from-sp tail-call-from-fp-0 tail-call-9-before-8 tail-call-clears-fp \
-    return-without-8 return-odd-place-taken return-odd-place-refused return-odd-address-taken \
-    return-10-before-8 return-8-before-7 return-without-10 return-fp-above-frame return-fp-in-window \
-    return-sp-at-fp return-restores-flags return-restores-r1 return-keeps-base \
-    frame-at-17fe4 top-bit-counts low-bits-count frame-first-word-in-window frame-outside-window
-broken calling literals-of-first-page
-broken rings saved-page-8-bits
 echo "deliberate mistakes found"

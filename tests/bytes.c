@@ -40,8 +40,6 @@ static mb_record any_record(void)
     record.z = random_bit();
     record.c = random_bit();
     record.v = random_bit();
-    record.fp = random_word();
-    record.page = (uint16_t)random_word();
     return record;
 }
 
@@ -53,22 +51,13 @@ static mb_base fit_base(void)
     return base;
 }
 
-/* A record that a lone page's run accepts, at a place from 0 to LAST_PLACE: FP and page may be anything. */
+/* A fit record, at a place from 0 to LAST_PLACE. */
 static mb_record fit_record(void)
 {
     mb_record record = any_record();
     record.sp = 0x10000 + 4 * random_below(0x2001);
     record.base = fit_base();
     record.place = (uint16_t)random_below(LAST_PLACE + 1);
-    return record;
-}
-
-/* One that can be stored too. */
-static mb_record stored_record(void)
-{
-    mb_record record = fit_record();
-    record.fp = random_bit() ? 0 : 0x10000 + 4 * random_below(0x1FF9);
-    record.page = (uint16_t)random_below(4096);
     return record;
 }
 
@@ -92,15 +81,9 @@ static void write_by_table(const mb_record *record, uint8_t *bytes)
     bytes[41] = byte_of(record->place, 0);
     bytes[42] = byte_of(record->place, 1);
     bytes[43] = (uint8_t)(8 * record->n + 4 * record->z + 2 * record->c + record->v);
-    bytes[44] = byte_of(record->fp, 0);
-    bytes[45] = byte_of(record->fp, 1);
-    bytes[46] = byte_of(record->fp, 2);
-    bytes[47] = byte_of(record->fp, 3);
-    bytes[48] = byte_of(record->page, 0);
-    bytes[49] = byte_of(record->page, 1);
 }
 
-/* Both ways, with nothing written past the 50 bytes. */
+/* Both ways, with nothing written past the 44 bytes. */
 static void bytes_by_the_table(void)
 {
     uint8_t bytes[MB_RECORD_BYTES + 1], expected[MB_RECORD_BYTES + 1];
@@ -117,7 +100,7 @@ static void bytes_by_the_table(void)
 static void stored_by_the_table(void)
 {
     uint8_t room[MB_RECORD_BYTES], expected[MB_RECORD_BYTES];
-    mb_record record = stored_record(), loaded = any_record();
+    mb_record record = fit_record(), loaded = any_record();
     write_by_table(&record, expected);
     CHECK(mb_store(&record, room, sizeof room, NULL), MB_ACCEPTED);
     CHECK(memcmp(room, expected, sizeof room) == 0, true);
@@ -137,20 +120,10 @@ static uint32_t wrong_sp(void)
     }
 }
 
-/* Below RAM, with words past it, or in it and no multiple of 4. */
-static uint32_t wrong_fp(void)
-{
-    switch (random_below(3)) {
-    case 0: return 1 + random_below(0xFFFF);
-    case 1: return 0x17FE4 + (random_word() >> (1 + random_below(31)));
-    default: return 0x10000 + 4 * random_below(0x1FF8) + 1 + random_below(3);
-    }
-}
-
 /* Each field out of range or left as it is, by chance. */
 static mb_record spoilt_record(void)
 {
-    mb_record record = stored_record();
+    mb_record record = fit_record();
     if (random_bit())
         record.sp = wrong_sp();
     if (random_bit())
@@ -159,10 +132,6 @@ static mb_record spoilt_record(void)
         record.base.offset = random_word() >> random_below(32);
     if (random_bit())
         record.place = (uint16_t)random_below(256);
-    if (random_bit())
-        record.fp = wrong_fp();
-    if (random_bit())
-        record.page = (uint16_t)(random_word() >> random_below(32));
     return record;
 }
 
@@ -178,9 +147,7 @@ static bool offset_in_range(mb_base base)
 /* By the table, from its last row up; 0 if all is in range. */
 static uint32_t first_failing(const mb_record *record, uint8_t flags)
 {
-    uint32_t position = record->page > 4095 ? 48 : 0;
-    position = record->fp != 0 && (record->fp < 0x10000 || record->fp > 0x17FE0 || record->fp % 4 != 0) ? 44 : position;
-    position = flags > 15 ? 43 : position;
+    uint32_t position = flags > 15 ? 43 : 0;
     position = record->place > 127 ? 41 : position;
     position = offset_in_range(record->base) ? position : 37;
     position = record->base.kind > 2 ? 36 : position;

@@ -1,5 +1,5 @@
 #!/usr/bin/env bash
-# The header's calls from C, and the examples, over the archive that `rt staticlib marshbodkin` has made. The header is C99 and
+# The header's calls from C, and the example, over the archive that `rt staticlib marshbodkin` has made. The header is C99 and
 # C++11 without a warning (tests/warnings), by gcc and, where it is installed, clang.
 set -euo pipefail
 cd "$(dirname "$0")/.."
@@ -7,30 +7,28 @@ archive=target/staticlib/libmarshbodkin.a
 scratch=$(mktemp -d)
 trap 'rm -rf "$scratch"' EXIT
 
-# built COMPILER FILE [WORDS...], named as the file is
+# built COMPILER FILE [WORDS...]
 built() {
-  "$1" "${@:3}" @tests/warnings -Iinclude -o "$scratch/$(basename "$2" .c)" "$2" -x none "$archive"
+  "$1" "${@:3}" @tests/warnings -Iinclude -o "$scratch/built" "$2" -x none "$archive"
 }
 
 # The sanitizers see what the header does outside an area. In lent.c nothing comes from the archive.
-for test in host image linked bytes lent; do
+for test in host image bytes lent; do
   built gcc "tests/$test.c" -std=c99 -O1 -fsanitize=address,undefined -fno-sanitize-recover
-  "$scratch/$test"
+  "$scratch/built"
 done
 
 built gcc tests/words.c -std=c99
-"$scratch/words" >"$scratch/said"
-sed -n '/^## Words$/,/^## /p' docs/MACHINE.md | grep '^| ' | sed 1d | diff - "$scratch/said"
-echo "words of $(wc -l <"$scratch/said") numbers as in docs/MACHINE.md"
+"$scratch/built" >"$scratch/words"
+sed -n '/^## Words$/,/^## /p' docs/MACHINE.md | grep '^| ' | sed 1d | diff - "$scratch/words"
+echo "words of $(wc -l <"$scratch/words") numbers as in docs/MACHINE.md"
 
 for compiler in gcc clang; do
   type -P "$compiler" >/dev/null || continue
   for language in 'c -std=c99' 'c++ -std=c++11'; do
-    for example in host pages; do
-      # shellcheck disable=SC2086 # two words
-      built "$compiler" "examples/$example.c" -O2 -x $language
-    done
-    tests/example.sh "$scratch/host" "$scratch/pages"
-    echo "examples/host.c and examples/pages.c by $compiler -x $language"
+    # shellcheck disable=SC2086 # two words
+    built "$compiler" examples/host.c -O2 -x $language
+    tests/example.sh "$scratch/built"
+    echo "examples/host.c by $compiler -x $language"
   done
 done

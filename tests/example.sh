@@ -1,17 +1,12 @@
 #!/usr/bin/env bash
-# An example host, in C or Rust, on its filter and on pages that it can't run; and that of the filter of two pages, where it is
-# given: example.sh HOST [PAGES]
+# An example host, in C or Rust, on its filter and on pages that it can't run: example.sh HOST
 set -euo pipefail
 host=$(realpath "$1")
-pages=${2:+$(realpath "$2")}
 cd "$(dirname "$0")/.."
 scratch=$(mktemp -d)
 trap 'rm -rf "$scratch"' EXIT
 
 "$host" examples/departures.page | diff - examples/host.stdout
-if [ -n "$pages" ]; then
-  "$pages" | diff - examples/pages.stdout
-fi
 
 # Fails unless the host, given the file, ends with status 1 and says the text on standard error: complains TEXT FILE
 complains() {

@@ -15,7 +15,7 @@ struct areas {
     uint8_t ram[MB_RAM_BYTES + 1];
     uint8_t external[512];
     uint8_t room[MB_RECORD_BYTES + 1];
-    uint8_t packed[96]; /* fifteen numbers of six groups, and more */
+    uint8_t packed[80]; /* thirteen numbers of six groups, and more */
 };
 
 static struct areas lent, before;
@@ -507,7 +507,7 @@ static void base_at_the_end(void)
 /* Each part at an end of its range, and its bytes in 01's order. */
 static const mb_record full = {
     {0x04030201, 0x14131211, 0x24232221, 0x34333231, 0x44434241, 0x54535251, 0x64636261, 0xFFFFFFFF},
-    0x10000, {MB_BASE_RAM, 0xFFFFF}, 127, true, true, true, true, 0x17FE0, 4095,
+    0x10000, {MB_BASE_RAM, 0xFFFFF}, 127, true, true, true, true,
 };
 static const uint8_t full_bytes[MB_RECORD_BYTES] = {
     0x01, 0x02, 0x03, 0x04, 0x11, 0x12, 0x13, 0x14, 0x21, 0x22, 0x23, 0x24, 0x31, 0x32, 0x33, 0x34,
@@ -515,9 +515,7 @@ static const uint8_t full_bytes[MB_RECORD_BYTES] = {
     0x00, 0x00, 0x01, 0x00, /* SP 0x10000 */
     0x01, 0xFF, 0xFF, 0x0F, 0x00, /* RAM offset 0xFFFFF */
     0x7F, 0x00, /* place 127 */
-    0x0F, /* N, Z, C, V */
-    0xE0, 0x7F, 0x01, 0x00, /* FP 0x17FE0 */
-    0xFF, 0x0F /* page 4095 */
+    0x0F /* N, Z, C, V */
 };
 
 static void stored_and_read_back(void)
@@ -539,7 +537,7 @@ static void stored_and_read_back(void)
 }
 
 /* One field each with a value out of range: where it stands, the kind that the base then has, the value, and what a step and a
- * run of a lone page without external data refuse it by. FP and page, which they don't look at, come last. */
+ * run without external data refuse it by. */
 typedef struct { uint32_t position; uint8_t kind; uint32_t value, refusal; } damage;
 
 static const damage damages[] = {
@@ -557,20 +555,15 @@ static const damage damages[] = {
     {MB_AT_BASE_OFFSET, MB_BASE_EXTERNAL, UINT32_MAX, MB_REFUSED_EXTERNAL_OFFSET},
     {MB_AT_PLACE, 0, 128, MB_REFUSED_UNFIT_PLACE}, {MB_AT_PLACE, 0, 256, MB_REFUSED_UNFIT_PLACE},
     {MB_AT_PLACE, 0, 65535, MB_REFUSED_UNFIT_PLACE},
-    {MB_AT_FP, 0, 4, MB_ACCEPTED}, {MB_AT_FP, 0, 0xFFFC, MB_ACCEPTED}, {MB_AT_FP, 0, 0x10001, MB_ACCEPTED},
-    {MB_AT_FP, 0, 0x10002, MB_ACCEPTED}, {MB_AT_FP, 0, 0x17FE4, MB_ACCEPTED}, {MB_AT_FP, 0, UINT32_MAX, MB_ACCEPTED},
-    {MB_AT_PAGE, 0, 4096, MB_ACCEPTED}, {MB_AT_PAGE, 0, 65535, MB_ACCEPTED},
 };
 
-enum { DAMAGES = sizeof damages / sizeof damages[0], UNSEEN = 8, SEEN = DAMAGES - UNSEEN };
+enum { DAMAGES = sizeof damages / sizeof damages[0] };
 
 static void put_damage(damage d)
 {
     switch (d.position) {
     case MB_AT_SP: record.sp = d.value; break;
     case MB_AT_PLACE: record.place = (uint16_t)d.value; break;
-    case MB_AT_FP: record.fp = d.value; break;
-    case MB_AT_PAGE: record.page = (uint16_t)d.value; break;
     default: set_base(d.kind, d.value);
     }
 }
@@ -594,7 +587,7 @@ static void check_not_packed(int line, uint32_t position)
         check_pack(line, MB_REFUSED_FORM_RANGE, position, NULL, 0);
 }
 
-/* The record isn't stored, and its bytes are not read back or packed, with flags above 15 neither, which stand before FP. */
+/* The record isn't stored, and its bytes are not read back or packed, with flags above 15 neither. */
 static void check_out_of_range(int line, uint32_t position)
 {
     keep();
@@ -604,9 +597,9 @@ static void check_out_of_range(int line, uint32_t position)
     keep();
     check_load(line, MB_REFUSED_FORM_RANGE, position);
     lent.room[MB_AT_FLAGS] = before.room[MB_AT_FLAGS] = 16;
-    check_load(line, MB_REFUSED_FORM_RANGE, lower(position, MB_AT_FLAGS));
+    check_load(line, MB_REFUSED_FORM_RANGE, position);
     check(line, "changed by the load", changed(), 0);
-    check_not_packed(line, lower(position, MB_AT_FLAGS));
+    check_not_packed(line, position);
     lent.room[MB_AT_FLAGS] = 0;
     check_not_packed(line, position);
 }
@@ -640,7 +633,6 @@ static void not_read_back(void)
     const uint8_t changes[][3] = {
         {32, 1, 32}, {33, 0x81, 32}, {34, 2, 32}, {34, 0, 32}, {35, 1, 32}, {36, 3, 36}, {36, 255, 36}, {36, 0, 37},
         {39, 0x10, 37}, {40, 1, 37}, {41, 128, 41}, {42, 1, 41}, {43, 16, 43}, {43, 255, 43},
-        {44, 0xE4, 44}, {44, 0xE1, 44}, {45, 0x80, 44}, {46, 0, 44}, {46, 2, 44}, {47, 1, 44}, {49, 0x10, 48}, {49, 0xFF, 48},
     };
     for (size_t i = 0; i < sizeof changes / sizeof changes[0]; i++) {
         begin();
@@ -655,7 +647,7 @@ static void not_read_back(void)
 
 static void form_length(void)
 {
-    const size_t lengths[] = {0, 44, 49, 51};
+    const size_t lengths[] = {0, 43, 45};
     for (size_t i = 0; i < sizeof lengths / sizeof lengths[0]; i++) {
         begin();
         room_length = lengths[i];
@@ -680,8 +672,7 @@ static const uint8_t full_short[] = {
     0x81, 0x84, 0x8C, 0x20, 0x91, 0xA4, 0xCC, 0xA0, 0x01, 0xA1, 0xC4, 0x8C, 0xA1, 0x02, 0xB1, 0xE4, 0xCC, 0xA1, 0x03,
     0xC1, 0x84, 0x8D, 0xA2, 0x04, 0xD1, 0xA4, 0xCD, 0xA2, 0x05, 0xE1, 0xC4, 0x8D, 0xA3, 0x06, 0xFF, 0xFF, 0xFF, 0xFF, 0x0F,
     0x80, 0x40, /* 8,192 words from SP to 0x18000 */
-    0x01, 0xFF, 0xFF, 0x3F, 0x7F, 0x0F,
-    0xE0, 0xFF, 0x05, 0xFF, 0x1F /* FP as it stands, and page */
+    0x01, 0xFF, 0xFF, 0x3F, 0x7F, 0x0F
 };
 
 /* A record of the longest short form: every number has as many groups as it can have. */
@@ -690,13 +681,12 @@ static const uint8_t longest_bytes[MB_RECORD_BYTES] = {
     0xFF, 0xFF, 0xFF, 0x1F, 0xEF, 0xCD, 0xAB, 0x89, 0xFE, 0xFF, 0xFF, 0xFF, 0x10, 0x32, 0x54, 0x76,
     0x00, 0x00, 0x01, 0x00, /* SP 0x10000 */
     0x02, 0xFF, 0xFF, 0xFF, 0x00, /* external offset 0xFFFFFF */
-    0x7F, 0x00, 0x0F,
-    0x00, 0x00, 0x01, 0x00, 0x80, 0x00 /* FP 0x10000, page 128 */
+    0x7F, 0x00, 0x0F
 };
 static const uint8_t longest_short[MB_SHORT_MOST] = {
     0xFF, 0xFF, 0xFF, 0xFF, 0x0F, 0x80, 0x80, 0x80, 0x80, 0x01, 0x80, 0x80, 0x80, 0x80, 0x08, 0xF8, 0xAC, 0xD1, 0x91, 0x01,
     0xFF, 0xFF, 0xFF, 0xFF, 0x01, 0xEF, 0x9B, 0xAF, 0xCD, 0x08, 0xFE, 0xFF, 0xFF, 0xFF, 0x0F, 0x90, 0xE4, 0xD0, 0xB2, 0x07,
-    0x80, 0x40, 0x02, 0xFF, 0xFF, 0xFF, 0x07, 0x7F, 0x0F, 0x80, 0x80, 0x04, 0x80, 0x01
+    0x80, 0x40, 0x02, 0xFF, 0xFF, 0xFF, 0x07, 0x7F, 0x0F
 };
 
 static const struct { const uint8_t *stored, *packed; size_t length; } forms[] = {
@@ -706,7 +696,7 @@ static const struct { const uint8_t *stored, *packed; size_t length; } forms[] =
 
 enum { FORMS = sizeof forms / sizeof forms[0] };
 
-/* The 50 bytes give the short form, what stands there then gives the 50 bytes, and these the short form again. */
+/* The 44 bytes give the short form, what stands there then gives the 44 bytes, and these the short form again. */
 static void check_both_ways(int line, const uint8_t *stored, const uint8_t *form, size_t length)
 {
     memcpy(lent.room, stored, MB_RECORD_BYTES);
@@ -740,13 +730,13 @@ static void rooms_of_short_forms(void)
 /* A short form number by number, each in its groups. The first eight are r0 to r7. */
 typedef struct { uint8_t length, bytes[6]; } groups;
 
-enum { SP = 8, BASE_KIND, BASE_OFFSET, PLACE, FLAGS, FP, OF_PAGE, NUMBERS };
+enum { SP = 8, BASE_KIND, BASE_OFFSET, PLACE, FLAGS, NUMBERS };
 
 static groups numbers[NUMBERS];
 
 static uint32_t position_of(size_t which)
 {
-    const uint32_t behind_sp[] = {MB_AT_BASE_KIND, MB_AT_BASE_OFFSET, MB_AT_PLACE, MB_AT_FLAGS, MB_AT_FP, MB_AT_PAGE};
+    const uint32_t behind_sp[] = {MB_AT_BASE_KIND, MB_AT_BASE_OFFSET, MB_AT_PLACE, MB_AT_FLAGS};
     return which <= SP ? (uint32_t)(4 * which) : behind_sp[which - BASE_KIND];
 }
 
@@ -836,22 +826,6 @@ static void short_bases(void)
     }
 }
 
-static void short_links(void)
-{
-    const struct { uint32_t fp; uint16_t page; groups frame, number; } links[] = {
-        {0, 1, {1, {0x00}}, {1, {0x01}}}, {0x10000, 127, {3, {0x80, 0x80, 0x04}}, {1, {0x7F}}},
-        {0x10004, 128, {3, {0x84, 0x80, 0x04}}, {2, {0x80, 0x01}}}, {0x17FE0, 4095, {3, {0xE0, 0xFF, 0x05}}, {2, {0xFF, 0x1F}}},
-    };
-    for (size_t i = 0; i < sizeof links / sizeof links[0]; i++) {
-        begin_numbers();
-        record.fp = links[i].fp;
-        record.page = links[i].page;
-        put_number(FP, 0, links[i].frame);
-        put_number(OF_PAGE, 0, links[i].number);
-        check_numbers(__LINE__);
-    }
-}
-
 /* 2^32, of which 32 bits are 0, and the most that five groups hold. */
 #define PAST_A_WORD {5, {0x80, 0x80, 0x80, 0x80, 0x10}}
 #define MOST {5, {0xFF, 0xFF, 0xFF, 0xFF, 0x7F}}
@@ -872,9 +846,6 @@ static const excess excesses[] = {
     {PLACE, 0, {2, {0x80, 0x01}}}, {PLACE, 0, {3, {0x80, 0x80, 0x04}}}, /* 65,536 */
     {PLACE, 0, PAST_A_WORD},
     {FLAGS, 0, {1, {16}}}, {FLAGS, 0, {2, {0x80, 0x02}}}, {FLAGS, 0, PAST_A_WORD},
-    {FP, 0, {1, {4}}}, {FP, 0, {3, {0xFC, 0xFF, 0x03}}}, {FP, 0, {3, {0x82, 0x80, 0x04}}}, /* 4, 0xFFFC, 0x10002 */
-    {FP, 0, {3, {0xE4, 0xFF, 0x05}}}, {FP, 0, PAST_A_WORD}, {FP, 0, {5, {0x80, 0x80, 0x84, 0x80, 0x10}}}, /* 2^32 + 0x10000 */
-    {OF_PAGE, 0, {2, {0x80, 0x20}}}, {OF_PAGE, 0, {3, {0x80, 0x80, 0x04}}}, {OF_PAGE, 0, PAST_A_WORD}, /* 4096, 65536 */
 };
 
 enum { EXCESSES = sizeof excesses / sizeof excesses[0] };
@@ -890,7 +861,7 @@ static void begin_excess(excess of)
     put_number(of.which, of.kind, of.number);
 }
 
-/* Told by the position in the 50 bytes, r0's too. */
+/* Told by the position in the 44 bytes, r0's too. */
 static void not_unpacked(void)
 {
     for (size_t i = 0; i < EXCESSES; i++) {
@@ -914,7 +885,7 @@ static void not_unpacked_twice(void)
     }
 }
 
-/* Fifteen numbers of five groups, 75 bytes, are the most that is read. */
+/* Thirteen numbers of five groups, 65 bytes, are the most that is read. */
 static void most_groups(void)
 {
     begin_numbers();
@@ -923,7 +894,7 @@ static void most_groups(void)
     for (size_t i = 0; i < NUMBERS; i++) {
         join_numbers();
         if (i == 0)
-            CHECK((uint32_t)packed_length, 75);
+            CHECK((uint32_t)packed_length, 65);
         check_unpack(__LINE__, MB_REFUSED_FORM_RANGE, position_of(i), NULL);
         numbers[i] = (groups){1, {i == BASE_KIND ? MB_BASE_RAM : 0}};
     }
@@ -1004,7 +975,7 @@ static void offsets_by_kind(void)
 /* 6 before 7 and 10, and before 9 and 7. */
 static void lengths_and_short_forms(void)
 {
-    const size_t lengths[] = {0, 44, 49, 51};
+    const size_t lengths[] = {0, 43, 45};
     for (size_t i = 0; i < sizeof lengths / sizeof lengths[0]; i++) {
         begin_excess(excesses[0]);
         room_length = lengths[i];
@@ -1026,7 +997,7 @@ static void lengths_and_short_forms(void)
 
 static void raw_lengths(void)
 {
-    const size_t lengths[] = {0, 44, 49, 51};
+    const size_t lengths[] = {0, 43, 45};
     uint8_t bytes[MB_RECORD_BYTES + 1], kept[sizeof bytes];
     begin();
     memset(bytes, 0x5A, sizeof bytes);
@@ -1036,7 +1007,7 @@ static void raw_lengths(void)
     keep();
     for (size_t i = 0; i < sizeof lengths / sizeof lengths[0]; i++) {
         CHECK(mb_raw_fresh(bytes, lengths[i]), MB_REFUSED_FORM_LENGTH);
-        for (room_length = 49; room_length <= 50; room_length++) {
+        for (room_length = 43; room_length <= 44; room_length++) {
             check_raw_store(__LINE__, bytes, lengths[i], MB_REFUSED_FORM_LENGTH, 0);
             check_raw_load(__LINE__, bytes, lengths[i], MB_REFUSED_FORM_LENGTH, 0);
         }
@@ -1065,7 +1036,7 @@ static void raw_flags(void)
 static void raw_flags_and_fields(void)
 {
     uint8_t bytes[MB_RECORD_BYTES];
-    for (size_t i = 0; i < SEEN; i++) {
+    for (size_t i = 0; i < DAMAGES; i++) {
         bool no_record = damages[i].refusal == MB_REFUSED_NO_RECORD;
         begin();
         put_damage(damages[i]);
@@ -1254,7 +1225,7 @@ static void refused_lengths(void)
 
 static void refused_records(void)
 {
-    for (size_t i = 0; i < SEEN; i++) {
+    for (size_t i = 0; i < DAMAGES; i++) {
         begin();
         put_damage(damages[i]);
         REFUSED_AT(damages[i].refusal, refused_at(damages[i]));
@@ -1273,8 +1244,8 @@ static uint32_t rank(uint32_t refusal)
 
 static void records_refused_twice(void)
 {
-    for (size_t i = 0; i < SEEN * SEEN; i++) {
-        damage one = damages[i / SEEN], other = damages[i % SEEN];
+    for (size_t i = 0; i < DAMAGES * DAMAGES; i++) {
+        damage one = damages[i / DAMAGES], other = damages[i % DAMAGES];
         damage first = rank(one.refusal) < rank(other.refusal) ? one : other;
         if (!together(one, other))
             continue;
@@ -1282,21 +1253,6 @@ static void records_refused_twice(void)
         put_damage(one);
         put_damage(other);
         REFUSED_AT(first.refusal, refused_at(first));
-    }
-}
-
-/* A run of a lone page takes any FP and any page, and leaves them; its return stays an exit. */
-static void unseen_fields(void)
-{
-    for (size_t i = SEEN; i < DAMAGES; i++) {
-        begin();
-        record.fp = 0x17FE0;
-        record.page = 7;
-        put_damage(damages[i]);
-        keep();
-        STOPS(run(100000), MB_STOP_SERVICE, 0, 0, 4);
-        CHECK(record.fp, record_before.fp);
-        CHECK(record.page, record_before.page);
     }
 }
 
@@ -1604,7 +1560,7 @@ static void unknown_profiles_of_runs(void)
         REFUSED(spoil(which));
         check_unknown_profiles(__LINE__);
     }
-    for (size_t which = 0; which < SEEN; which++) {
+    for (size_t which = 0; which < DAMAGES; which++) {
         begin();
         put_damage(damages[which]);
         REFUSED_AT(damages[which].refusal, refused_at(damages[which]));
@@ -1619,9 +1575,9 @@ static void unknown_profiles_of_bytes(void)
     begin();
     keep();
     memset(bytes, 0xFF, sizeof bytes);
-    for (size_t length = 49; length <= 50; length++) {
+    for (size_t length = 43; length <= 44; length++) {
         profile = profile_at_first;
-        BYTES_REFUSED(bytes, length, MB_REFUSED_NO_RECORD, length == 50 ? MB_AT_BASE_KIND : 0);
+        BYTES_REFUSED(bytes, length, MB_REFUSED_NO_RECORD, length == 44 ? MB_AT_BASE_KIND : 0);
         for (size_t i = 0; i < UNKNOWN_PROFILES; i++) {
             profile = unknown_profiles[i];
             BYTES_REFUSED(bytes, length, MB_REFUSED_UNKNOWN_PROFILE, 0);
@@ -1660,7 +1616,7 @@ static void refused_windows(void)
         other = spoil(which);
         check_wrong_windows(__LINE__, other == MB_REFUSED_UNFIT_PLACE ? MB_REFUSED_WINDOW_BOUNDS : other);
     }
-    for (size_t which = 0; which < SEEN; which++) {
+    for (size_t which = 0; which < DAMAGES; which++) {
         begin();
         put_damage(damages[which]);
         check_wrong_windows(__LINE__, MB_REFUSED_WINDOW_BOUNDS);
@@ -1936,10 +1892,10 @@ static const test of_the_full_profile[] = {
 static const test of_both_profiles[] = {
     initialisers, count_of_a_full_page, count_refused, bundles, bases, base_at_the_end,
     stored_and_read_back, out_of_range, out_of_range_twice, not_read_back, form_length,
-    short_forms, rooms_of_short_forms, short_registers, short_sps, short_bases, short_links, not_unpacked, not_unpacked_twice, most_groups,
+    short_forms, rooms_of_short_forms, short_registers, short_sps, short_bases, not_unpacked, not_unpacked_twice, most_groups,
     not_grouped, not_grouped_and_excess, cut_off_or_followed, offsets_by_kind, lengths_and_short_forms,
     raw_lengths, raw_flags, raw_flags_and_fields, printed_run, budget_zero, slices, other_stops, blt,
-    refused_lengths, refused_records, records_refused_twice, unseen_fields, fit_records, order,
+    refused_lengths, refused_records, records_refused_twice, fit_records, order,
     counts_of_syscalls, places_of_syscalls, places_behind_syscalls, other_services,
     counts_of_profiles, bundles_of_profiles, places_of_profiles,
     unknown_profiles_of_pages, unknown_profiles_of_runs, unknown_profiles_of_bytes,

@@ -85,14 +85,6 @@ static void begin(void)
     record = mb_fresh();
 }
 
-/* The fresh record in a page. */
-static mb_record in_page(uint16_t page)
-{
-    mb_record fresh = mb_fresh();
-    fresh.page = page;
-    return fresh;
-}
-
 /* ---- the calls with what is lent */
 
 static mb_image image(void)
@@ -127,7 +119,7 @@ static struct answer run(uint32_t budget)
 {
     struct answer a = stale;
     mb_image_setting on = setting();
-    a.code = mb_image_run(&on, lent.ram, ram_length, &record, budget, &a.stopped);
+    a.code = mb_image_run(&on, number, lent.ram, ram_length, &record, budget, &a.stopped);
     return a;
 }
 
@@ -135,7 +127,7 @@ static struct answer step(void)
 {
     struct answer a = stale;
     mb_image_setting on = setting();
-    a.code = mb_image_step(&on, lent.ram, ram_length, &record, &a.stopped);
+    a.code = mb_image_step(&on, number, lent.ram, ram_length, &record, &a.stopped);
     return a;
 }
 
@@ -144,7 +136,7 @@ static struct answer raw_step(uint8_t *bytes, size_t length)
 {
     struct answer a = stale;
     mb_stopped *s = &a.stopped;
-    a.code = mb_raw_image_step(lent.image, image_length, lent.index, index_length, never_return, profile, lent.ram,
+    a.code = mb_raw_image_step(lent.image, image_length, lent.index, index_length, never_return, profile, number, lent.ram,
                                ram_length, lent.external, external_length, window_start, window_end, bytes, length, &s->kind,
                                &s->value, &s->literal, &s->position, &s->steps);
     return a;
@@ -154,7 +146,7 @@ static struct answer raw_run(uint8_t *bytes, size_t length)
 {
     struct answer a = stale;
     mb_stopped *s = &a.stopped;
-    a.code = mb_raw_image_run(lent.image, image_length, lent.index, index_length, never_return, profile, lent.ram,
+    a.code = mb_raw_image_run(lent.image, image_length, lent.index, index_length, never_return, profile, number, lent.ram,
                               ram_length, lent.external, external_length, window_start, window_end, bytes, length, 10, &s->kind,
                               &s->value, &s->literal, &s->position, &s->steps);
     return a;
@@ -296,8 +288,7 @@ static void largest(void)
     CHECK(index[most - 1], 2);
     mb_image_setting on = mb_image_setting_of(of, NULL, 0);
     struct answer a = stale;
-    record.page = MB_IMAGE_PAGES_MOST - 1;
-    a.code = mb_image_run(&on, lent.ram, ram_length, &record, 10, &a.stopped);
+    a.code = mb_image_run(&on, MB_IMAGE_PAGES_MOST - 1, lent.ram, ram_length, &record, 10, &a.stopped);
     STOPS(a, MB_STOP_SERVICE, 0, 0, 4);
     free(index);
     free(large);
@@ -390,29 +381,31 @@ static void runs(void)
     STOPS(run(100), MB_STOP_SERVICE, 0, 0, 2);
     CHECK(record.r[0], 1);
     CHECK(record.place, 1);
-    record = in_page(2);
+    record = mb_fresh();
+    number = 2;
     STOPS(step(), MB_STOP_BUDGET, 0, 0, 1);
     CHECK(record.r[0], 0x1234);
     STOPS(run(1), MB_STOP_BUDGET, 0, 0, 1);
     STOPS(run(100), MB_STOP_SERVICE, 0, 0, 1);
-    record = in_page(4);
+    record = mb_fresh();
+    number = 4;
     never_return = mb_syscall_bit(0);
     lent.index[4] = 1;
     STOPS(run(100), MB_STOP_SERVICE, 0x80, 0, 2);
     CHECK(record.place, 1);
 }
 
-/* A run in a page gives what the page gives alone, with the same FP and page in the record. */
+/* A run in a page gives what the page gives alone. */
 static void runs_alone(void)
 {
-    for (uint16_t at = 0; at < PAGES; at++) {
-        mb_record own = in_page(at);
+    for (uint32_t at = 0; at < PAGES; at++) {
+        mb_record own = mb_fresh();
         struct answer a, alone = stale;
         mb_setting on = mb_setting_of(mb_program_of(page_at(at), MB_IMAGE_PAGE_BYTES), NULL, 0);
         static uint8_t own_ram[MB_RAM_BYTES];
         begin();
-        own.sp = 0x10000;
-        record = own;
+        number = at;
+        own.sp = record.sp = 0x10000;
         memcpy(own_ram, lent.ram, sizeof own_ram);
         a = run(100);
         alone.code = mb_run(&on, own_ram, sizeof own_ram, &own, 100, &alone.stopped);
@@ -427,7 +420,6 @@ static void windows_and_data(void)
 {
     begin();
     number = 3;
-    record = in_page(3);
     record.sp = 0x10000;
     record.r[0] = 0x89ABCDEF;
     window_end = 3;
@@ -439,7 +431,7 @@ static void windows_and_data(void)
     PUT(lent.page, 0xF8D8, 0x0000, 0xBF00, 0xDF00);
     CHECK(replace(), MB_ACCEPTED);
     external_length = 512;
-    record = in_page(3);
+    record = mb_fresh();
     record.base.kind = MB_BASE_EXTERNAL;
     record.base.offset = 256;
     STOPS(step(), MB_STOP_BUDGET, 0, 0, 1);
@@ -464,9 +456,10 @@ static void ends_of_pages(void)
 static void wrong_bytes(void)
 {
     for (size_t at = 0; at < PAGES; at++) {
-        for (uint16_t in = 0; in < PAGES; in++) {
+        for (number = 0; number < PAGES; number++) {
+            uint32_t in = number;
             begin();
-            record.page = in;
+            number = in;
             lent.index[at]++;
             REFUSED(MB_REFUSED_WRONG_INDEX);
             lent.index[at] = (uint8_t)(lent.index[at] - 2);
@@ -482,13 +475,13 @@ static void wrong_bytes(void)
     REFUSED(MB_REFUSED_WRONG_INDEX);
 }
 
-/* Everything wrong at first, and then mended part by part: 18, 12, 255, 13, 14, 21, 2, 3, 20. */
+/* Everything wrong at first, and then mended part by part: 18, 12, 13, 14, 21, 2, 3, 20, 255, 41 to 44, 5. */
 static void order_of_runs(void)
 {
     begin();
     profile = 2;
     image_length--;
-    record.page = PAGES;
+    number = PAGES;
     index_length--;
     lent.index[2]++;
     ram_length = 1;
@@ -496,20 +489,15 @@ static void order_of_runs(void)
     window_start = 1;
     window_end = 0;
     record.sp = 0xFFFE;
+    record.place = 128;
     record.base.kind = 3;
     record.base.offset = 1;
     REFUSED(MB_REFUSED_UNKNOWN_PROFILE);
     profile = MB_PROFILE_FULL;
     REFUSED(MB_REFUSED_IMAGE_LENGTH);
     image_length++;
-    REFUSED_AT(MB_REFUSED_NO_RECORD, MB_AT_BASE_KIND);
-    record.base.kind = MB_BASE_NONE;
-    REFUSED_AT(MB_REFUSED_NO_RECORD, MB_AT_BASE_OFFSET);
-    record.base.kind = MB_BASE_RAM;
     REFUSED(MB_REFUSED_NO_SUCH_PAGE);
-    record.page = 65535;
-    REFUSED(MB_REFUSED_NO_SUCH_PAGE);
-    record.page = 0;
+    number = 0;
     REFUSED(MB_REFUSED_INDEX_LENGTH);
     index_length++;
     REFUSED(MB_REFUSED_WRONG_INDEX);
@@ -520,19 +508,11 @@ static void order_of_runs(void)
     external_length = 0;
     REFUSED(MB_REFUSED_WINDOW_BOUNDS);
     window_end = 1;
-    REFUSED(MB_REFUSED_SP_BOUNDS);
-}
-
-/* The same of a record that bytes hold: 41 to 45, 5. */
-static void order_in_records(void)
-{
-    static const uint32_t unfit[] = {1, 4, 0xFFFC, 0x10001, 0x10002, 0x17FE1, 0x17FE4, 0x18000, UINT32_MAX};
-    begin();
-    record.sp = 0xFFFE;
+    REFUSED_AT(MB_REFUSED_NO_RECORD, MB_AT_BASE_KIND);
+    record.base.kind = MB_BASE_NONE;
+    REFUSED_AT(MB_REFUSED_NO_RECORD, MB_AT_BASE_OFFSET);
     record.base.kind = MB_BASE_RAM;
     record.base.offset = 0x100000;
-    record.place = 128;
-    record.fp = 4;
     REFUSED(MB_REFUSED_SP_BOUNDS);
     record.sp = 0x10002;
     REFUSED(MB_REFUSED_SP_ALIGNMENT);
@@ -542,18 +522,10 @@ static void order_in_records(void)
     REFUSED(MB_REFUSED_EXTERNAL_OFFSET);
     record.base.kind = MB_BASE_NONE;
     record.base.offset = 0;
-    for (size_t i = 0; i < sizeof unfit / sizeof unfit[0]; i++) {
-        record.fp = unfit[i];
-        REFUSED(MB_REFUSED_UNFIT_FP);
-    }
-    record.fp = 0x17FE0;
     REFUSED(MB_REFUSED_UNFIT_PLACE);
-    record.fp = 0x10000;
-    REFUSED(MB_REFUSED_UNFIT_PLACE);
-    record.fp = 0;
     record.place = 2; /* fit in page 2, not in this one */
     REFUSED(MB_REFUSED_UNFIT_PLACE);
-    record.page = 2;
+    number = 2;
     STOPS(run(10), MB_STOP_SERVICE, 0, 0, 2);
 }
 
@@ -569,11 +541,11 @@ static void nulls(void)
     CHECK(mb_image_build(&nothing), MB_REFUSED_IMAGE_LENGTH);
     CHECK(mb_image_replace(&nothing, 0, NULL, 0), MB_REFUSED_IMAGE_LENGTH);
     CHECK(mb_image_replace(&of, 0, NULL, 0), MB_REFUSED_PAGE_LENGTH);
-    CHECK(mb_image_run(&on, NULL, 0, &record, 10, &stopped), MB_REFUSED_IMAGE_LENGTH);
-    CHECK(mb_image_step(&on, NULL, 0, &record, &stopped), MB_REFUSED_IMAGE_LENGTH);
+    CHECK(mb_image_run(&on, 0, NULL, 0, &record, 10, &stopped), MB_REFUSED_IMAGE_LENGTH);
+    CHECK(mb_image_step(&on, 0, NULL, 0, &record, &stopped), MB_REFUSED_IMAGE_LENGTH);
     on = mb_image_setting_of(of, NULL, 0);
-    CHECK(mb_image_run(&on, NULL, 0, &record, 10, &stopped), MB_REFUSED_RAM_LENGTH);
-    CHECK(mb_image_run(&on, lent.ram, ram_length, &record, 10, &stopped), MB_ACCEPTED);
+    CHECK(mb_image_run(&on, 0, NULL, 0, &record, 10, &stopped), MB_REFUSED_RAM_LENGTH);
+    CHECK(mb_image_run(&on, 0, lent.ram, ram_length, &record, 10, &stopped), MB_ACCEPTED);
     of.index = NULL;
     of.index_length = 0;
     CHECK(mb_image_build(&of), MB_REFUSED_INDEX_LENGTH);
@@ -583,8 +555,7 @@ int main(void)
 {
     void (*const tests[])(void) = {
         initialisers, builds, builds_refused, largest, replacements, replacements_by_the_platform, replacements_refused,
-        order_of_replacements, runs, runs_alone, windows_and_data, ends_of_pages, wrong_bytes, order_of_runs,
-        order_in_records, nulls,
+        order_of_replacements, runs, runs_alone, windows_and_data, ends_of_pages, wrong_bytes, order_of_runs, nulls,
     };
     for (size_t i = 0; i < sizeof tests / sizeof tests[0]; i++)
         tests[i]();

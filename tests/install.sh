@@ -1,5 +1,5 @@
 #!/usr/bin/env bash
-# tools/install: builds, and installs into a scratch folder; there the examples are built through pkg-config, and the programs run.
+# tools/install: builds, and installs into a scratch folder; there the example is built through pkg-config, and the programs run.
 # Then its ways to fail.
 set -euo pipefail
 root=$(dirname "$(realpath "$0")")/..
@@ -11,11 +11,8 @@ cd "$scratch"
 PKG_CONFIG_PATH=$(realpath prefix)/lib/pkgconfig
 export PKG_CONFIG_PATH
 read -r -a flags <<<"$(pkg-config --cflags --libs marshbodkin)"
-for example in host pages; do
-  gcc -std=c99 "@$root/tests/warnings" -o "$example" "$root/examples/$example.c" "${flags[@]}"
-done
+gcc -std=c99 "@$root/tests/warnings" -o host "$root/examples/host.c" "${flags[@]}"
 ./host "$root/examples/departures.page" | diff - "$root/examples/host.stdout"
-./pages | diff - "$root/examples/pages.stdout"
 # The version by the preprocessor, whereas tools/install reads the header's lines.
 printf '#include <marshbodkin.h>\nMB_VERSION_MAJOR MB_VERSION_MINOR MB_VERSION_PATCH\n' |
   gcc -E -P -Iprefix/include - | tail -n 1 | tr ' ' . | diff - <(pkg-config --modversion marshbodkin)

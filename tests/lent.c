@@ -1,7 +1,7 @@
 /* The header's calls with null areas of length 0, over proved calls of this file's own instead of the archive's: what they are
  * lent is never null and never overlaps, which the archive wouldn't show. The set of syscalls and the profile are the program's
- * or the image's, whole, the window is the setting's, the page's number is the call's or the record's, and the position and the
- * length that come back are the proved call's. Areas with bytes are lent as they are, and stay where the proved call doesn't write. */
+ * or the image's, whole, the window is the setting's, the page's number is the call's, and the position and the length that come
+ * back are the proved call's. Areas with bytes are lent as they are, and stay where the proved call doesn't write. */
 #include "check.h"
 #include "marshbodkin.h"
 
@@ -15,9 +15,8 @@
 #define WINDOW_START UINT32_C(0x80000002)
 #define WINDOW_END UINT32_C(0x80000003)
 
-/* The number of a page, and that of a record. */
+/* The number of a page. */
 #define NUMBER UINT32_C(0x80000004)
-#define RECORD_PAGE UINT16_C(0x8005)
 
 /* Positions, and a length, that the proved calls write; answers of some. */
 enum { STORE_POSITION = 71, LOAD_POSITION = 72, RUN_POSITION = 73, PACK_POSITION = 74, UNPACK_POSITION = 75,
@@ -143,7 +142,7 @@ uint32_t mb_raw_image_replace(uint8_t *image, size_t image_length, uint8_t *inde
 
 /* It answers the budget, as the run of a lone page does. */
 uint32_t mb_raw_image_run(const uint8_t *image, size_t image_length, const uint8_t *index, size_t index_length,
-                          uint64_t never_return, uint32_t profile, uint8_t *ram, size_t ram_length,
+                          uint64_t never_return, uint32_t profile, uint32_t number, uint8_t *ram, size_t ram_length,
                           const uint8_t *external, size_t external_length, uint32_t window_start, uint32_t window_end,
                           uint8_t *record, size_t record_length, uint32_t budget, uint32_t *kind, uint32_t *value,
                           uint32_t *literal, uint32_t *position, uint32_t *steps)
@@ -151,7 +150,7 @@ uint32_t mb_raw_image_run(const uint8_t *image, size_t image_length, const uint8
     take_image(image, image_length, index, index_length, never_return, profile);
     take(ram, ram_length);
     take(external, external_length);
-    other_numbers += record[MB_AT_PAGE] + 256u * record[MB_AT_PAGE + 1] != RECORD_PAGE;
+    other_numbers += number != NUMBER;
     other_windows += window_start != WINDOW_START || window_end != WINDOW_END;
     *kind = *value = *literal = *steps = 0;
     *position = IMAGE_RUN_POSITION;
@@ -244,13 +243,10 @@ static void images_of_nothing(void)
     mb_stopped stopped = mb_nothing_run();
     LENT(mb_image_build(&setting.image), BUILD_ANSWER, 2);
     LENT(mb_image_replace(&setting.image, NUMBER, NULL, 0), REPLACE_ANSWER, 3);
-    record.page = RECORD_PAGE;
-    LENT(mb_image_run(&setting, NULL, 0, &record, 0, &stopped), 0, 4);
+    LENT(mb_image_run(&setting, NUMBER, NULL, 0, &record, 0, &stopped), 0, 4);
     CHECK(stopped.position, IMAGE_RUN_POSITION);
-    CHECK(record.page, 0);
     stopped = mb_nothing_run();
-    record.page = RECORD_PAGE;
-    LENT(mb_image_step(&setting, NULL, 0, &record, &stopped), 1, 4);
+    LENT(mb_image_step(&setting, NUMBER, NULL, 0, &record, &stopped), 1, 4);
     CHECK(stopped.position, IMAGE_RUN_POSITION);
 }
 
@@ -278,13 +274,11 @@ static void images_of_bytes(void)
     check_image(__LINE__, image_length, index_length, 3);
     setting.external = page;
     setting.external_length = sizeof page;
-    record.page = RECORD_PAGE;
-    mb_image_run(&setting, ram, sizeof ram, &record, 0, &stopped);
+    mb_image_run(&setting, NUMBER, ram, sizeof ram, &record, 0, &stopped);
     CHECK(areas[2] == ram && lengths[2] == sizeof ram, true);
     CHECK(areas[3] == page && lengths[3] == sizeof page, true);
     check_image(__LINE__, image_length, index_length, 4);
-    record.page = RECORD_PAGE;
-    mb_image_step(&setting, ram, sizeof ram, &record, &stopped);
+    mb_image_step(&setting, NUMBER, ram, sizeof ram, &record, &stopped);
     CHECK(areas[2] == ram && lengths[2] == sizeof ram, true);
     CHECK(areas[3] == page && lengths[3] == sizeof page, true);
     check_image(__LINE__, image_length, index_length, 4);

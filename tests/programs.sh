@@ -22,9 +22,9 @@ wrote() {
 unread="standard input can't be read"
 unwritten="standard output can't be written"
 
-# Pages of 256 bytes, and fifteen numbers of five groups.
+# Pages of 256 bytes, and thirteen numbers of five groups.
 head -c 256 /dev/zero >"$scratch/page"
-printf '\xFF\xFF\xFF\xFF\x7F%.0s' {1..15} >"$scratch/numbers"
+printf '\xFF\xFF\xFF\xFF\x7F%.0s' {1..13} >"$scratch/numbers"
 
 for program in lister runner pack unpack; do
   run=$folder/$program

@@ -13,7 +13,7 @@ static inline bool same_record(const mb_record *one, const mb_record *other)
             return false;
     return one->sp == other->sp && one->base.kind == other->base.kind && one->base.offset == other->base.offset &&
            one->place == other->place && one->n == other->n && one->z == other->z && one->c == other->c &&
-           one->v == other->v && one->fp == other->fp && one->page == other->page;
+           one->v == other->v;
 }
 
 static inline void put_halfword(uint8_t *page, size_t place, uint32_t halfword)

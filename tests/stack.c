@@ -18,14 +18,13 @@ static void (*measured)(void);
 /* What is lent to the calls. */
 static uint8_t page[MB_PAGE_MOST], ram[MB_RAM_BYTES], external[256], record[MB_RECORD_BYTES], room[MB_RECORD_BYTES];
 static uint8_t packed[MB_SHORT_MOST];
-static uint8_t image[2 * MB_IMAGE_PAGE_BYTES], image_index[2]; /* the page is the second of an image; the first calls */
+static uint8_t image[2 * MB_IMAGE_PAGE_BYTES], image_index[2]; /* the page is the second of an image */
 static uint8_t no_record[MB_RECORD_BYTES] = {[MB_AT_BASE_KIND] = 3};
 /* A record of the longest short form, with five groups for each register; and a number of six. */
 static const uint8_t longest[MB_RECORD_BYTES] = {
     0xFF, 0xFF, 0xFF, 0xFF, 0xFF, 0xFF, 0xFF, 0xFF, 0xFF, 0xFF, 0xFF, 0xFF, 0xFF, 0xFF, 0xFF, 0xFF,
     0xFF, 0xFF, 0xFF, 0xFF, 0xFF, 0xFF, 0xFF, 0xFF, 0xFF, 0xFF, 0xFF, 0xFF, 0xFF, 0xFF, 0xFF, 0xFF,
     0x00, 0x00, 0x01, 0x00, 0x02, 0xFF, 0xFF, 0xFF, 0x00, 0x7F, 0x00, 0x0F,
-    0xE0, 0x7F, 0x01, 0x00, 0xFF, 0x0F,
 };
 static const uint8_t six_groups[] = {0xFF, 0xFF, 0xFF, 0xFF, 0xFF, 0x01};
 static size_t page_length;
@@ -62,13 +61,13 @@ static void pack(void)
     code = mb_raw_pack(longest, sizeof longest, packed, sizeof packed, &length, &position);
 }
 
-/* What was packed, with its page, whose high group is the last byte, out of range at first. */
+/* What was packed, with its flags, in the last byte, out of range at first. */
 static void unpack(void)
 {
     refused += mb_raw_unpack(six_groups, sizeof six_groups, room, sizeof room, &position);
-    packed[sizeof packed - 1] ^= 32;
+    packed[sizeof packed - 1] ^= 16;
     refused += mb_raw_unpack(packed, sizeof packed, room, sizeof room, &position);
-    packed[sizeof packed - 1] ^= 32;
+    packed[sizeof packed - 1] ^= 16;
     code = mb_raw_unpack(packed, sizeof packed, room, sizeof room, &position);
 }
 
@@ -83,9 +82,6 @@ static void decode_exit(void)
     for (uint32_t low = 0; low < 256; low++)
         mb_raw_exit(low, 0x80070001, &numbers[0], &numbers[1], &numbers[2], &numbers[3], &numbers[4]);
 }
-
-/* What a step or a run answers that stops by a fault, or at its budget, where the value is 0. */
-static void faulted(uint32_t answer) { refused += answer + stopped.value; }
 
 /* In a window up to an offset: all of RAM, none of it, or more, which is refused. */
 static uint32_t run_from(uint8_t *bytes, uint32_t window_end)
@@ -108,7 +104,8 @@ static void run(void)
     refused += run_from(no_record, MB_RAM_BYTES);
     refused += run_from(no_record, MB_RAM_BYTES + 1);
     fresh();
-    faulted(run_from(record, 0));
+    refused += run_from(record, 0);
+    refused += stopped.value;
     fresh();
     do {
         code = run_from(record, MB_RAM_BYTES);
@@ -121,7 +118,8 @@ static void steps(void)
     refused += step_from(no_record, MB_RAM_BYTES + 1);
     fresh();
     do {
-        faulted(step_from(record, 0));
+        refused += step_from(record, 0);
+        refused += stopped.value;
     } while (stopped.kind == MB_STOP_BUDGET);
     fresh();
     do {
@@ -151,70 +149,30 @@ static void image_replace(void)
 
 static uint32_t image_run_from(uint8_t *bytes, uint32_t window_end)
 {
-    return mb_raw_image_run(image, sizeof image, image_index, sizeof image_index, never_return, profile, ram, sizeof ram,
+    return mb_raw_image_run(image, sizeof image, image_index, sizeof image_index, never_return, profile, 1, ram, sizeof ram,
                             external, sizeof external, 0, window_end, bytes, MB_RECORD_BYTES, 1000, &stopped.kind,
                             &stopped.value, &stopped.literal, &stopped.position, &stopped.steps);
 }
 
 static uint32_t image_step_from(uint8_t *bytes, uint32_t window_end)
 {
-    return mb_raw_image_step(image, sizeof image, image_index, sizeof image_index, never_return, profile, ram, sizeof ram,
+    return mb_raw_image_step(image, sizeof image, image_index, sizeof image_index, never_return, profile, 1, ram, sizeof ram,
                              external, sizeof external, 0, window_end, bytes, MB_RECORD_BYTES, &stopped.kind, &stopped.value,
                              &stopped.literal, &stopped.position, &stopped.steps);
 }
 
-/* The fresh record at a place of a page. */
-static void fresh_at(uint8_t page_number, uint8_t place)
-{
-    fresh();
-    record[MB_AT_PAGE] = page_number;
-    record[MB_AT_PLACE] = place;
-}
-
-/* Where the image's first page calls and returns, and where it calls an unfit place. */
-enum { START = 0, CALL = 1, RETURN = 7, CALL_UNFIT = 9 };
-
-/* What a run or a step refuses: an index with a wrong byte at its end, bytes that hold no record, a page, a window, FP. */
-static void refused_links(uint32_t (*from)(uint8_t *, uint32_t))
-{
-    image_index[1]++;
-    refused += from(record, MB_RAM_BYTES);
-    image_index[1]--;
-    refused += from(no_record, MB_RAM_BYTES);
-    fresh_at(2, START);
-    refused += from(record, MB_RAM_BYTES);
-    fresh_at(0, START);
-    refused += from(record, MB_RAM_BYTES + 1);
-    record[MB_AT_FP] = 4;
-    refused += from(record, MB_RAM_BYTES);
-}
-
-/* Its faults at a call, 7, 8 and 9, and at a return through a frame at the start of RAM, 10. */
-static void faulty_links(uint32_t (*from)(uint8_t *, uint32_t))
-{
-    fresh_at(0, CALL);
-    faulted(from(record, 0));
-    fresh_at(0, CALL_UNFIT);
-    faulted(from(record, MB_RAM_BYTES));
-    fresh_at(0, CALL);
-    record[MB_AT_SP + 1] = 0; /* 0x10000 */
-    faulted(from(record, MB_RAM_BYTES));
-    fresh_at(0, RETURN);
-    record[MB_AT_FP + 2] = 1;
-    memset(ram, 0, 8);
-    ram[3] = 0x80; /* PC 0x80000000 */
-    ram[4] = 1; /* and no FP */
-    faulted(from(record, MB_RAM_BYTES));
-}
-
-/* The first page calls and returns, by a literal and by a register, and tail calls the second, which goes on as it does alone. */
+/* As the run and the steps of the page alone, and refused by an index with a wrong byte at its end. */
 static void image_run(void)
 {
-    refused_links(image_run_from);
-    faulty_links(image_run_from);
-    fresh_at(1, START);
-    faulted(image_run_from(record, 0));
-    fresh_at(0, START);
+    image_index[1]++;
+    refused += image_run_from(record, MB_RAM_BYTES);
+    image_index[1]--;
+    refused += image_run_from(no_record, MB_RAM_BYTES);
+    refused += image_run_from(no_record, MB_RAM_BYTES + 1);
+    fresh();
+    refused += image_run_from(record, 0);
+    refused += stopped.value;
+    fresh();
     do {
         code = image_run_from(record, MB_RAM_BYTES);
     } while (stopped.kind == MB_STOP_SERVICE);
@@ -222,13 +180,17 @@ static void image_run(void)
 
 static void image_steps(void)
 {
-    refused_links(image_step_from);
-    faulty_links(image_step_from);
-    fresh_at(1, START);
+    image_index[1]++;
+    refused += image_step_from(record, MB_RAM_BYTES);
+    image_index[1]--;
+    refused += image_step_from(no_record, MB_RAM_BYTES);
+    refused += image_step_from(no_record, MB_RAM_BYTES + 1);
+    fresh();
     do {
-        faulted(image_step_from(record, 0));
+        refused += image_step_from(record, 0);
+        refused += stopped.value;
     } while (stopped.kind == MB_STOP_BUDGET);
-    fresh_at(0, START);
+    fresh();
     do {
         code = image_step_from(record, MB_RAM_BYTES);
     } while (stopped.kind == MB_STOP_BUDGET || stopped.kind == MB_STOP_SERVICE);
@@ -272,21 +234,7 @@ static size_t taken_by(void (*call)(void))
 
 /* ---- a page that reaches every function that a run comes to; so many of its bundles are code */
 
-enum { CODE = 17, CALLING = 6 };
-
-/* The page before it in the image; so many of its bundles are code too. */
-static void put_calling_page(void)
-{
-    static const uint16_t halfwords[] = {
-        0xBF00, 0xDF08, 0x4806, 0xDFF0, /* 0, 1: call bundle 3 by the word of bundle 8; the same by r0 */
-        0xBF00, 0xDF09, /* 2: tail call the next page */
-        0xBF00, 0xDF00, /* 3: return */
-        0xBF00, 0xDF0A, 0xBF00, 0xDF00, /* 4, 5: call bundle 6 */
-        0xDE00, 0xDE00, 0xDE00, 0xDE00, /* 6, 7: unlisted */
-        0x000C, 0x0100, 0x0101, 0x0000, 0x0018, 0x0000, /* the words */
-    };
-    put_halfwords(image, halfwords, sizeof halfwords / sizeof halfwords[0]);
-}
+enum { CODE = 17 };
 
 static void put_page(void)
 {
@@ -321,8 +269,7 @@ static void lend(uint32_t in_profile)
     if (profile == MB_PROFILE_SMALL)
         leave_out_32_bits();
     memcpy(image + MB_IMAGE_PAGE_BYTES, page, sizeof page);
-    put_calling_page();
-    image_index[0] = CALLING;
+    image_index[0] = 0;
     image_index[1] = CODE;
     stopped = mb_nothing_run();
     refused = 0;
@@ -331,13 +278,6 @@ static void lend(uint32_t in_profile)
 /* ---- all calls */
 
 typedef struct { const char *name; void (*call)(void); uint32_t value, refused; } named_call;
-
-/* What a run in the image adds up. */
-enum {
-    IMAGE_RUN_REFUSED = MB_REFUSED_WRONG_INDEX + MB_REFUSED_NO_RECORD + MB_REFUSED_NO_SUCH_PAGE + MB_REFUSED_WINDOW_BOUNDS +
-                        MB_REFUSED_UNFIT_FP + MB_FAULT_OUTSIDE_WINDOW + MB_FAULT_UNFIT_PLACE + MB_FAULT_LOW_FRAME +
-                        MB_FAULT_UNFIT_FRAME + MB_FAULT_OUTSIDE_WINDOW
-};
 
 /* The most stack that a call takes in a profile; it must be accepted, and run to the page's end, but for what it is to refuse. */
 static size_t most_taken(named_call named)
@@ -367,7 +307,10 @@ int main(void)
         {"unpack", unpack, 0, MB_REFUSED_NOT_GROUPED + MB_REFUSED_FORM_RANGE}, {"exit", decode_exit, 0, 0},
         {"image_build", image_build, 0, MB_REFUSED_IMAGE_LENGTH + MB_REFUSED_INDEX_LENGTH},
         {"image_replace", image_replace, 0, MB_REFUSED_NO_SUCH_PAGE + MB_REFUSED_PAGE_LENGTH},
-        {"image_step", image_steps, 0x16, IMAGE_RUN_REFUSED}, {"image_run", image_run, 0x16, IMAGE_RUN_REFUSED},
+        {"image_step", image_steps, 0x16,
+         MB_REFUSED_WRONG_INDEX + MB_REFUSED_NO_RECORD + MB_REFUSED_WINDOW_BOUNDS + MB_FAULT_OUTSIDE_WINDOW},
+        {"image_run", image_run, 0x16,
+         MB_REFUSED_WRONG_INDEX + MB_REFUSED_NO_RECORD + MB_REFUSED_WINDOW_BOUNDS + MB_FAULT_OUTSIDE_WINDOW},
     };
     for (size_t i = 0; i < sizeof calls / sizeof calls[0]; i++) {
         size_t most = most_taken(calls[i]);

@@ -51,11 +51,10 @@ static void run_slices(work *w)
     memset(w->ram, 0, sizeof w->ram);
     w->record = mb_fresh();
     w->record.sp = 0x17FFC;
-    w->record.page = (uint16_t)w->number;
     for (size_t i = 0; i < SLICES; i++)
         w->refusals += i % 2 == 0
                            ? mb_run(&setting, w->ram, sizeof w->ram, &w->record, SLICE, &w->stops[i])
-                           : mb_image_run(&shared, w->ram, sizeof w->ram, &w->record, SLICE, &w->stops[i]);
+                           : mb_image_run(&shared, w->number, w->ram, sizeof w->ram, &w->record, SLICE, &w->stops[i]);
 }
 
 static bool same_work(const work *one, const work *other)

@@ -1,6 +1,5 @@
 //! Deliberate mistakes: a comparison that does not find them is worth nothing.
 
-mod calls;
 mod images;
 mod short;
 mod windows;
@@ -14,8 +13,8 @@ use crate::second::memory::validate;
 use crate::second::page::{Code, NeverReturn, Page};
 use crate::second::profile::{Profile, SMALL};
 use crate::second::record::{
-    unfit, Base, Fields, Record, AT_FLAGS, AT_FP, AT_KIND, AT_OFFSET, AT_PAGE, AT_PLACE, AT_SP,
-    LAST_PLACE, MOST_EXTERNAL,
+    unfit, Base, Fields, Record, AT_FLAGS, AT_KIND, AT_OFFSET, AT_PLACE, AT_SP, LAST_PLACE,
+    MOST_EXTERNAL,
 };
 use crate::second::rules::Rules;
 
@@ -230,7 +229,7 @@ const MISTAKES: [(&str, Rules); 28] = [
     ),
 ];
 
-/// All mistakes, those of windows, of calls, of images and of the short form last.
+/// All mistakes, those of windows, of images and of the short form last.
 fn all() -> impl Iterator<Item = (&'static str, Rules)> {
     let of_images = images::MISTAKES.into_iter().map(|(name, images)| {
         let rules = Rules {
@@ -247,7 +246,6 @@ fn all() -> impl Iterator<Item = (&'static str, Rules)> {
         (name, rules)
     });
     let others = MISTAKES.into_iter().chain(windows::MISTAKES);
-    let others = others.chain(calls::MISTAKES.iter().copied());
     others.chain(of_images).chain(of_the_short_form)
 }
 
@@ -419,8 +417,6 @@ fn position_in_fields(fields: &Fields) -> Option<u8> {
         AT_OFFSET => 10,
         AT_PLACE => 11,
         AT_FLAGS => 12,
-        AT_FP => 13,
-        AT_PAGE => 14,
         other => other,
     };
     Some(number)

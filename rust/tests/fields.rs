@@ -20,17 +20,13 @@ use marshbodkin_check::second::text;
 
 const RIGHT: Rules = Rules::RIGHT;
 /// Values that fail, each by where it stands in the form and its field's position.
-const FAILING: [(usize, &[u8], u8); 10] = [
+const FAILING: [(usize, &[u8], u8); 6] = [
     (32, &[0xFC, 0xFF, 0, 0], 32),
     (32, &[2, 0, 1, 0], 32),
     (36, &[3], 36),
     (36, &[0, 1, 0, 0, 0], 37),
     (41, &[128, 0], 41),
     (43, &[16], 43),
-    (44, &[2, 0, 1, 0], 44),
-    (44, &[0xFC, 0xFF, 0, 0], 44),
-    (44, &[0xE4, 0x7F, 1, 0], 44),
-    (48, &[0, 16], 48),
 ];
 
 /// Where bytes are overwritten, and by what.
@@ -137,10 +133,6 @@ fn each_field_of_a_form_fails_at_its_position() {
     for at in 0..32 {
         assert_eq!(form_refusal(&changed(&[(at, &[0xFF])])), None, "byte {at}");
     }
-    for fits in [&[0xE0, 0x7F, 1, 0][..], &[0, 0, 1, 0], &[4, 0, 1, 0]] {
-        let last_page = (48, &[0xFF, 0x0F][..]);
-        assert_eq!(form_refusal(&changed(&[(44, fits), last_page])), None);
-    }
 }
 
 #[test]
@@ -172,7 +164,7 @@ fn an_offset_fails_by_its_kind() {
 #[test]
 fn a_length_is_tested_before_the_fields() {
     for (at, value, _) in FAILING {
-        for length in [0, 44, 49, 51] {
+        for length in [0, 43, 45] {
             let mut bytes = changed(&[(at, value)]);
             let room = store_bytes(RIGHT, &bytes, &mut vec![0; length]);
             assert_eq!(room, refused(6));
@@ -198,40 +190,15 @@ fn bytes_that_hold_no_record_say_where() {
     assert_eq!(refusal(&[flags, none, kind]), no_record(36));
     assert_eq!(refusal(&[sp, place]), refused(41));
     assert_eq!(refusal(&[place]), refused(5));
-    for length in [0, 44, 49, 51] {
+    for length in [0, 43, 45] {
         assert_eq!(run_refusal(&vec![0xFF; length], 0), no_record(0));
         assert_eq!(run_refusal(&vec![0xFF; length], 1), refused(3));
-    }
-}
-
-/// A lone page's run takes any FP and any page, and leaves them.
-#[test]
-fn a_lone_page_looks_at_neither_fp_nor_page() {
-    let page = page_bytes(&[[0x2001, 0xDF00]]);
-    for (fp, page_number) in [(1, 4096), (0x1_7FE4, 65_535), (u32::MAX, 0), (0x1_0000, 9)] {
-        let given = Record {
-            fp,
-            page: page_number,
-            ..Record::fresh()
-        };
-        let mut bytes = stored_bytes(&given);
-        let mut ram = vec![7; RAM_SIZE];
-        let setting = Setting::new(Code::plain(&page));
-        let (stop, steps) = run_bytes(RIGHT, setting, &mut ram, &mut bytes, 5);
-        assert_eq!((stop.refusal(), steps), (None, 2));
-        assert_eq!(bytes[44..], stored_bytes(&given)[44..]);
     }
 }
 
 #[test]
 fn the_parts_find_mistakes_by_themselves() {
     let in_fields = [
-        "lone-page-changes-page",
-        "lone-page-tests-fp",
-        "stored-page-4096",
-        "stored-fp-17fe4",
-        "fp-not-stored",
-        "page-not-stored",
         "place-128",
         "alignment-before-bounds",
         "external-by-most",
@@ -277,8 +244,6 @@ fn a_tally_misses_what_was_not_met() {
         ("load", "7-at-37"),
         ("store", "7-at-41"),
         ("load", "7-at-43"),
-        ("store", "7-at-44"),
-        ("load", "7-at-48"),
         ("step", "41"),
         ("run", "42"),
         ("step", "43"),

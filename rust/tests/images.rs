@@ -4,10 +4,9 @@
 mod parts;
 
 use marshbodkin_check::assemble::{page_bytes, Bundle, NOP, RETURN};
-use marshbodkin_check::compare::image_cases::{self, in_page};
 use marshbodkin_check::compare::image_sides::Images;
 use marshbodkin_check::compare::tally::Tally;
-use marshbodkin_check::compare::{image_refusals, images};
+use marshbodkin_check::compare::{image_cases, image_refusals, images};
 use marshbodkin_check::second::image::{
     build, replace, run_in, Image, ImageSetting, Lent, Platform, MOST_PAGES, PAGE,
 };
@@ -15,7 +14,7 @@ use marshbodkin_check::second::machine::{run_bytes, Stop};
 use marshbodkin_check::second::memory::{Fault, RAM_SIZE};
 use marshbodkin_check::second::page::NeverReturn;
 use marshbodkin_check::second::profile::{FULL, SMALL};
-use marshbodkin_check::second::record::{Base, Record};
+use marshbodkin_check::second::record::{stored_bytes, Base, Record};
 use marshbodkin_check::second::refusal::Refusal;
 use marshbodkin_check::second::rules::Rules;
 use marshbodkin_check::second::window::Window;
@@ -166,7 +165,7 @@ fn replacements_that_are_refused() {
 /// A run in a page of the image, whose index is built but for changes.
 fn run_with(
     platform: Platform,
-    page: u16,
+    number: u32,
     change: impl FnOnce(&mut Vec<u8>),
     (ram, record): (usize, &Record),
 ) -> (Stop, u32, Record) {
@@ -185,8 +184,8 @@ fn run_with(
         external: &[],
         window: Window::WHOLE,
     };
-    let (mut ram, mut record) = (vec![0; ram], in_page(page.into(), record));
-    let (stop, steps) = run_in(RULES, setting, &mut ram, &mut record, 50);
+    let (mut ram, mut record) = (vec![0; ram], stored_bytes(record));
+    let (stop, steps) = run_in(RULES, setting, number, &mut ram, &mut record, 50);
     let (after, _) = marshbodkin_check::second::record::read_back(RULES, &record);
     (stop, steps, after)
 }
@@ -210,7 +209,7 @@ fn a_run_is_that_of_its_page() {
     assert_eq!((stop, after.registers[0]), (RETURNED, 0xDEDE_DEDE));
     assert_eq!(number(run(5).0), Some(5));
     assert_eq!(number(run(6).0), Some(13));
-    assert_eq!(number(run(u16::MAX).0), Some(13));
+    assert_eq!(number(run(u32::MAX).0), Some(13));
 }
 
 /// A literal load past the page doesn't reach the next, nor a branch.
@@ -243,12 +242,12 @@ fn nothing_leads_into_the_next_page() {
         ..Record::fresh()
     };
     for number in [0, 1] {
-        let mut record = in_page(number, &record);
+        let mut record = stored_bytes(&record);
         let mut ram = vec![0; RAM_SIZE];
         let mut alone = (record.clone(), ram.clone());
-        let ran = run_in(RULES, setting, &mut ram, &mut record, 9);
+        let ran = run_in(RULES, setting, number, &mut ram, &mut record, 9);
         assert_eq!(ran, (Stop::Fault(Fault::PastPage), 0));
-        let lone = setting.alone(number);
+        let lone = setting.alone(number as usize);
         let by_itself = run_bytes(RULES, lone, &mut alone.1, &mut alone.0, 9);
         assert_eq!(by_itself, ran);
         assert!((record, ram) == alone);
@@ -294,7 +293,6 @@ fn the_order_of_a_run() {
         sp: 3,
         base: Base::Ram(1 << 20),
         place: 127,
-        fp: 4,
         ..Record::fresh()
     };
     let unknown = Platform {
@@ -312,38 +310,16 @@ fn the_order_of_a_run() {
     assert_eq!(refused(PLAIN, 0, wrong, 1, &unfit), Some(21));
     assert_eq!(refused(PLAIN, 0, |_| {}, 1, &unfit), Some(2));
     assert_eq!(refused(PLAIN, 0, |_| {}, RAM_SIZE, &unfit), Some(41));
-}
-
-/// The same of the record itself, all else being right.
-#[test]
-fn the_order_in_a_record() {
-    let refused = |record: &Record| number(run_with(PLAIN, 0, |_| {}, (RAM_SIZE, record)).0);
     let unfit = Record {
         sp: 0x10000,
-        base: Base::Ram(1 << 20),
-        place: 127,
-        fp: 4,
-        ..Record::fresh()
+        ..unfit
     };
-    assert_eq!(refused(&unfit), Some(43));
+    assert_eq!(refused(PLAIN, 0, |_| {}, RAM_SIZE, &unfit), Some(43));
     let unfit = Record {
         base: Base::None,
         ..unfit
     };
-    for fp in [4, 0xFFFC, 0x1_0002, 0x1_7FE4] {
-        let unfit = Record {
-            fp,
-            ..unfit.clone()
-        };
-        assert_eq!(refused(&unfit), Some(45));
-    }
-    for fp in [0, 0x1_0000, 0x1_7FE0] {
-        let unfit = Record {
-            fp,
-            ..unfit.clone()
-        };
-        assert_eq!(refused(&unfit), Some(5));
-    }
+    assert_eq!(refused(PLAIN, 0, |_| {}, RAM_SIZE, &unfit), Some(5));
 }
 
 #[test]
@@ -364,105 +340,84 @@ fn an_index_that_is_not_fresh_is_found() {
     assert!(image_cases::held_to("build", 14, 12, &before, &before).is_err());
 }
 
-/// Mistakes that each of the two parts finds.
-const OF_IMAGES: [&str; 18] = [
-    "byte-of-page-before",
-    "run-of-page-before",
-    "own-byte-alone",
-    "own-byte-unchecked",
-    "first-byte-unchecked",
-    "last-byte-unchecked",
-    "byte-above-accepted",
-    "count-under-empty-set",
-    "count-under-profile-0",
-    "index-from-the-end",
-    "image-cut",
-    "longer-index",
-    "number-cut",
-    "page-of-252",
-    "refused-page-written",
-    "refused-byte-written",
-    "replaced-one-behind",
-    "replaced-and-built",
-];
-const OF_REFUSALS: [&str; 21] = [
-    "build-12-before-18",
-    "build-14-before-12",
-    "replace-12-before-18",
-    "replace-13-before-12",
-    "replace-14-before-13",
-    "replace-1-before-14",
-    "replace-1-first",
-    "run-12-before-18",
-    "run-13-before-12",
-    "run-14-before-13",
-    "run-21-before-14",
-    "run-2-before-21",
-    "run-255-before-12",
-    "run-13-before-255",
-    "run-255-after-20",
-    "run-45-before-44",
-    "run-5-before-45",
-    "run-without-45",
-    "pages-4097",
-    "no-page",
-    "refused-index-written",
-];
-
 #[test]
 fn the_parts_find_mistakes_by_themselves() {
-    parts::check_finds(images::compare, &OF_IMAGES);
-    parts::check_finds(image_refusals::compare, &OF_REFUSALS);
+    let of_images = [
+        "byte-of-page-before",
+        "run-of-page-before",
+        "own-byte-alone",
+        "own-byte-unchecked",
+        "first-byte-unchecked",
+        "last-byte-unchecked",
+        "byte-above-accepted",
+        "count-under-empty-set",
+        "count-under-profile-0",
+        "index-from-the-end",
+        "image-cut",
+        "longer-index",
+        "number-cut",
+        "page-of-252",
+        "refused-page-written",
+        "refused-byte-written",
+        "replaced-one-behind",
+        "replaced-and-built",
+    ];
+    parts::check_finds(images::compare, &of_images);
+    let of_refusals = [
+        "build-12-before-18",
+        "build-14-before-12",
+        "replace-12-before-18",
+        "replace-13-before-12",
+        "replace-14-before-13",
+        "replace-1-before-14",
+        "replace-1-first",
+        "run-12-before-18",
+        "run-13-before-12",
+        "run-14-before-13",
+        "run-21-before-14",
+        "run-2-before-21",
+        "pages-4097",
+        "no-page",
+        "refused-index-written",
+    ];
+    parts::check_finds(image_refusals::compare, &of_refusals);
 }
-
-/// Some of what has to be met.
-const CLASSES: [&str; 40] = [
-    "image build 0",
-    "image build 12",
-    "image build 14",
-    "image build 18",
-    "image replace 1",
-    "image replace 13",
-    "image run 21",
-    "image step 21",
-    "image run 255-at-43",
-    "image step 5",
-    "images: of 4096 pages",
-    "image runs: stops: budget",
-    "image steps: stops: literal",
-    "image runs: faults: 3",
-    "image runs: faults: 10",
-    "image steps: faults: 7",
-    "image steps: faults: 8",
-    "image steps: faults: 9",
-    "image run 45",
-    "image step 13",
-    "image runs: in the: last page",
-    "image runs: sets: full",
-    "image runs: profiles: small",
-    "image runs: windows: empty",
-    "image runs as in a page alone: fault",
-    "image runs as in a page alone: up to a link",
-    "replacements: accepted",
-    "replacements: refused",
-    "wrong index bytes: last, one less, in another",
-    "images met: steps in several pages of one",
-    "images met: a wrong byte left by a replacement beside it",
-    "image build: 12 before 14",
-    "image replace: 14 before 1",
-    "image run: 12 before 255",
-    "image step: 255 before 13",
-    "image run: 44 before 45",
-    "image step: 45 before 5",
-    "image run: 14 before 21",
-    "image run: 21 before 2",
-    "image step: 21 before 5",
-];
 
 #[test]
 fn a_tally_misses_what_was_not_met() {
     let failures = Tally::default().failures();
-    for class in CLASSES {
+    for class in [
+        "image build 0",
+        "image build 12",
+        "image build 14",
+        "image build 18",
+        "image replace 1",
+        "image replace 13",
+        "image run 21",
+        "image step 21",
+        "image run 255-at-43",
+        "image step 5",
+        "images: of 4096 pages",
+        "image runs: stops: budget",
+        "image steps: stops: literal",
+        "image runs: faults: 3",
+        "image steps: faults: 7",
+        "image runs: in the: last page",
+        "image runs: sets: full",
+        "image runs: profiles: small",
+        "image runs: windows: empty",
+        "image runs as in a page alone: fault",
+        "replacements: accepted",
+        "replacements: refused",
+        "wrong index bytes: last, one less, in another",
+        "images met: steps in several pages of one",
+        "images met: a wrong byte left by a replacement beside it",
+        "image build: 12 before 14",
+        "image replace: 14 before 1",
+        "image run: 14 before 21",
+        "image run: 21 before 2",
+        "image step: 21 before 5",
+    ] {
         let line = format!("{class} was not met");
         assert!(failures.contains(&line), "{class}");
     }

@@ -144,8 +144,6 @@ fn sample() -> Record {
         },
         place: 127,
         base: Base::External(0x00FF_FFFF),
-        fp: 0x1_7FE0,
-        page: 0x0123,
     }
 }
 
@@ -171,30 +169,21 @@ fn stored_form_has_the_papers_order() {
     store(&sample(), &mut room);
     assert_eq!(room[24..28], [4, 3, 2, 1]);
     assert_eq!(
-        room[32..44],
+        room[32..],
         [0x10, 0, 1, 0, 2, 0xFF, 0xFF, 0xFF, 0, 127, 0, 11]
     );
-    assert_eq!(room[44..], [0xE0, 0x7F, 1, 0, 0x23, 1]);
 }
 
 #[test]
 fn storing_refuses() {
     let length = Some(Refusal::plain(6));
-    assert_eq!(store(&sample(), &mut [0; 49]), length);
+    assert_eq!(store(&sample(), &mut [0; 43]), length);
     let sp = |sp| Record { sp, ..sample() };
     let place = Record {
         place: 128,
         ..sample()
     };
-    let fp = |fp| Record { fp, ..sample() };
-    let page = Record {
-        page: 4096,
-        ..sample()
-    };
     let bad = [
-        (fp(0x1_7FE4), 44),
-        (fp(0x1_0001), 44),
-        (page, 48),
         (sp(0xFFFC), 32),
         (sp(0x10002), 32),
         (place, 41),
@@ -212,7 +201,7 @@ fn storing_refuses() {
 #[test]
 fn reading_back_refuses() {
     let length = (Record::fresh(), Some(Refusal::plain(6)));
-    assert_eq!(read_back(RIGHT, &[0; 51]), length);
+    assert_eq!(read_back(RIGHT, &[0; 45]), length);
     let mut good = [0; STORED];
     store(&sample(), &mut good);
     for (at, value, position) in [
@@ -222,9 +211,6 @@ fn reading_back_refuses() {
         (40, 1, 37),
         (41, 128, 41),
         (43, 16, 43),
-        (44, 0xE4, 44),
-        (46, 0, 44),
-        (49, 16, 48),
         (34, 2, 32),
     ] {
         let mut bytes = good;

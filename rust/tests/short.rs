@@ -77,14 +77,12 @@ fn longest() -> Record {
         },
         place: 127,
         base: Base::External(0xFF_FFFF),
-        fp: 0x1_7FE0,
-        page: 4095,
     }
 }
 
-/// Zeros for r0 to r7 and SP, then these bytes, and zeros for FP and page.
+/// Zeros for r0 to r7 and SP, then these bytes.
 fn behind_sp(bytes: &[u8]) -> Vec<u8> {
-    [&[0; 9], bytes, &[0; 2]].concat()
+    [&[0; 9], bytes].concat()
 }
 
 #[test]
@@ -125,7 +123,6 @@ fn forms_by_hand() {
     check_form(&Record::fresh(), &[0; LEAST]);
     let mut form = [0xFF, 0xFF, 0xFF, 0xFF, 0x0F].repeat(8);
     form.extend([0x80, 0x40, 2, 0xFF, 0xFF, 0xFF, 7, 0x7F, 0x0F]);
-    form.extend([0xE0, 0xFF, 5, 0xFF, 0x1F]);
     assert_eq!(form.len(), MOST);
     check_form(&longest(), &form);
 
@@ -138,7 +135,7 @@ fn forms_by_hand() {
     };
     let form = [
         1, 0x7F, 0x80, 1, 0xFF, 0x7F, 0x80, 0x80, 1, 0x80, 0x80, 0x80, 0x80, 1, 0, 0xFF, 0xFF,
-        0xFF, 0xFF, 0x0F, 2, 1, 0, 3, 0, 0, 0,
+        0xFF, 0xFF, 0x0F, 2, 1, 0, 3, 0,
     ];
     check_form(&record, &form);
 }
@@ -171,7 +168,7 @@ fn packing_tests_length_range_room() {
         let (answer, left) = packed(&wrong, room);
         let refusal = Refusal::at(7, 43);
         assert_eq!((answer, left), (Err(refusal), vec![FILLING; room]));
-        for length in [0, 44, 49, 51] {
+        for length in [0, 43, 45] {
             let (answer, _) = packed(&vec![0xFF; length], room);
             assert_eq!(answer, Err(Refusal::plain(6)));
         }
@@ -182,31 +179,31 @@ fn packing_tests_length_range_room() {
 
 #[test]
 fn unpacking_tests_room_groups_range() {
-    for room in [0, 44, 49, 51] {
+    for room in [0, 43, 45] {
         for form in [&[0; LEAST][..], &[], &behind_sp(&[3, 0, 0, 0])] {
             let left = vec![FILLING; room];
             assert_eq!(unpacked(form, room), (Err(Refusal::plain(6)), left));
         }
     }
     let past = [0xFF, 0xFF, 0xFF, 0xFF, 0x7F];
-    let mut form = past.repeat(15);
+    let mut form = past.repeat(13);
     check_refused(&form, Refusal::at(7, 0));
     form.push(0);
     check_refused(&form, Refusal::plain(9));
-    for length in 0..75 {
+    for length in 0..65 {
         check_refused(&form[..length], Refusal::plain(9));
     }
-    form[74] = 0;
-    check_refused(&form[..75], Refusal::plain(9));
-    assert_eq!(text::unpacked(RIGHT, &form[..75]), b"refused 9\n");
+    form[64] = 0;
+    check_refused(&form[..65], Refusal::plain(9));
+    assert_eq!(text::unpacked(RIGHT, &form[..65]), b"refused 9\n");
     assert_eq!(text::unpacked(RIGHT, &[]), b"refused 9\n");
-    assert_eq!(text::unpacked(RIGHT, &past.repeat(15)), b"refused 7 0\n");
+    assert_eq!(text::unpacked(RIGHT, &past.repeat(13)), b"refused 7 0\n");
 }
 
 /// Every number of a form padded, of six groups and cut off, though flags fail too.
 #[test]
 fn every_number_is_to_be_grouped() {
-    let numbers = [1, 2, 3, 4, 5, 6, 7, 8, 9, 1, 10, 11, 16, 12, 13];
+    let numbers = [1, 2, 3, 4, 5, 6, 7, 8, 9, 1, 10, 11, 16];
     let groups = numbers.map(write);
     check_refused(&groups.concat(), Refusal::at(7, 43));
     for number in 0..numbers.len() {
@@ -228,38 +225,20 @@ fn every_number_is_to_be_grouped() {
 #[test]
 fn no_number_is_past_its_field() {
     for (field, position) in FIELDS.into_iter().enumerate() {
-        let mut numbers = [0, 0, 0, 0, 0, 0, 0, 0, 0, 1, 0, 0, 0, 0, 0];
+        let mut numbers = [0, 0, 0, 0, 0, 0, 0, 0, 0, 1, 0, 0, 0];
         for value in [1 << 32, (1 << 32) + 1, (1 << 35) - 1] {
             numbers[field] = value;
             let form = numbers.map(write).concat();
             check_refused(&form, Refusal::at(7, position));
         }
     }
-    let mut numbers = [0; 14];
+    let mut numbers = [0; 12];
     for (number, accepted) in [(8191, true), (8192, true), (8193, false), (1 << 30, false)] {
         numbers[8] = number;
         let form = numbers.map(write).concat();
         match accepted {
             true => assert_eq!(unpacked(&form, STORED).0, Ok(())),
             false => check_refused(&form, Refusal::at(7, 32)),
-        }
-    }
-    let mut numbers = [0; 14];
-    for (fp, page, refused) in [
-        (0x1_0000, 4095, None),
-        (0x1_7FE0, 4096, Some(48)),
-        (0, 65_536, Some(48)),
-        (4, 4096, Some(44)),
-        (0xFFFC, 0, Some(44)),
-        (0x1_0002, 0, Some(44)),
-        (0x1_7FE4, 0, Some(44)),
-        ((1 << 32) + 0x1_0000, 0, Some(44)),
-    ] {
-        numbers[12..].copy_from_slice(&[fp, page]);
-        let form = numbers.map(write).concat();
-        match refused {
-            None => assert_eq!(unpacked(&form, STORED).0, Ok(())),
-            Some(position) => check_refused(&form, Refusal::at(7, position)),
         }
     }
     check_refused(&behind_sp(&[0, 0x80, 0x80, 4, 0]), Refusal::at(7, 41));
@@ -315,8 +294,6 @@ fn the_parts_find_mistakes_by_themselves() {
         "five-groups-refused",
         "offset-with-none",
         "sp-as-it-stands",
-        "fp-in-words",
-        "fp-from-the-end",
         "room-one-less",
         "room-for-the-longest",
         "room-cleared",
@@ -332,7 +309,7 @@ fn the_parts_find_mistakes_by_themselves() {
         .filter(|name| !name.starts_with("room-"))
         .copied()
         .collect();
-    assert_eq!(in_unpacking.len(), 24);
+    assert_eq!(in_unpacking.len(), 19);
     parts::check_finds(unpacking::compare, &in_unpacking);
 }
 
@@ -354,11 +331,9 @@ fn a_tally_misses_what_was_not_met() {
         "short form: not shortest: r0 was not met",
         "short form: more than five groups: SP was not met",
         "short form: cut off: flags was not met",
-        "short form: not shortest: FP was not met",
-        "short form: past its field: page was not met",
         "short form: past its field: kind was not met",
-        "short form: packed lengths: 14 was not met",
-        "short form: unpacked lengths: 54 was not met",
+        "short form: packed lengths: 12 was not met",
+        "short form: unpacked lengths: 49 was not met",
         "short form: packing: a room one too small was not met",
         "short form: unpacking: followed by bytes was not met",
         "short form: unpacking: an unknown kind with offset was not met",
@@ -384,8 +359,8 @@ fn a_tally_finds_answers_that_the_call_cannot_give() {
     for (call, told, _) in answers {
         tally.call(call, told);
     }
-    let longest = [0xFF, 0xFF, 0xFF, 0xFF, 0x7F].repeat(15);
-    tally.unpacked(&longest, STORED, Told::ACCEPTED);
+    let sixty_five = [0xFF, 0xFF, 0xFF, 0xFF, 0x7F].repeat(13);
+    tally.unpacked(&sixty_five, STORED, Told::ACCEPTED);
     let mut met = tally.failures();
     met.retain(|line| line.ends_with(" was met"));
     let lines = answers.map(|(call, _, told)| format!("{call} {told} was met"));

@@ -233,7 +233,7 @@ fn the_window_stands_behind_3_and_before_the_record() {
             (5, record(RAM_START, Base::None, 2)),
         ]
         .map(|(number, record)| (number, stored_bytes(&record)));
-        let no_record = (255, vec![0xFF; 50]);
+        let no_record = (255, vec![0xFF; 44]);
         for (number, bytes) in behind.into_iter().chain([no_record]) {
             let lengths = (RAM_SIZE, 256);
             assert_eq!(refusal(good, lengths, within, &bytes), Some(20));

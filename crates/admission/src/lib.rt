@@ -46,7 +46,7 @@ pub fn of_areas(
     refusal::first_of(program, lent)
 }
 
-pub fn of_place(page: &[u8], platform: Platform, count: u32, place: u16) -> Verdict
+fn of_place(page: &[u8], platform: Platform, count: u32, place: u16) -> Verdict
     ensures { decision_of result ≡ decision (place_rule (program_of page.now platform) count place ∷ []) }
 {
     if !place::is_fit(page, platform, count, place) {

@@ -1,15 +1,12 @@
 -- What a service asks of an image: a call, a tail call or a return between its pages. A lone page leaves these to the host.
-use Rattle.std.specs.Prelude.{ℕ, Bool, true, false, ◌&&◌, cond, List}
+use Rattle.std.specs.Prelude.{ℕ, List}
 use Rattle.isa.specs.declared.Instruction.{Instruction}
 use Rattle.isa.specs.declared.Instruction.TheVariants as instruction
 use Rattle.literal.specs.declared.Service.{Service}
 use Rattle.literal.specs.declared.Service.TheVariants.{Return, Call, TailCall, Syscall, TailSyscall, LongBranch, Preload, SetBase, StoreAtSp, LoadAtSp, LowerSp, DirectSyscall, Validate, Breakpoint, CallRegister, TailCallRegister, Bad}
 use Rattle.page.specs.Page.{word_at}
-use Rattle.platform.specs.Programs.{Program}
 use Rattle.service.specs.Services.{service_of}
 use Rattle.state.specs.Record.{register_in}
-use Rattle.state.specs.declared.Record.{Record}
-use Rattle.place.specs.Places.{instruction_at}
 use Rattle.asking.specs.declared.Asked.{Asked}
 use Rattle.asking.specs.declared.Asked.TheVariants.{NoTransfer}
 use Rattle.asking.specs.declared.Asked.TheVariants as asked
@@ -44,22 +41,3 @@ asked_in page regs (instruction.Bcc condition imm8) = NoTransfer
 asked_in page regs (instruction.B imm11) = NoTransfer
 asked_in page regs (instruction.Service n) = asked_by (service_of page n) (word_at page n) regs
 asked_in page regs instruction.Unlisted = NoTransfer
-
--- by what stands at the record's place
-abbrev pub asked_at : Program → Record → Asked
-asked_at program r = asked_in program.page r.regs (instruction_at program r.place)
-
--- ---- the part of a run that a page does by itself
-
-abbrev pub asks : Asked → Bool
-asks NoTransfer = false
-asks (asked.Call w) = true
-asks (asked.TailCall w) = true
-asks asked.Return = true
-
--- what the page's own run finds at the record's place: in an image, nothing where a transfer is asked for
-unfoldable pub own_of : Bool → Asked → Instruction → Instruction
-own_of in_image ask i = cond (in_image && asks ask) instruction.Unlisted i
-
-abbrev pub field_own : Bool → Program → Record → Instruction
-field_own in_image program r = own_of in_image (asked_at program r) (instruction_at program r.place)

@@ -1,12 +1,9 @@
-// Which calls and returns a service asks of an image, and what is left of a page's run without them.
+// Which call, tail call or return a service asks of an image.
 ghost use Rattle.std.specs.Prelude.{◌≡◌};
-ghost use Rattle.platform.specs.Programs.{program_of};
-ghost use Rattle.place.specs.Places.{instruction_at};
-ghost use Rattle.asking.specs.Asking.{asked_by, asked_in, asks, own_of};
+ghost use Rattle.asking.specs.Asking.{asked_by, asked_in};
 
 use isa::Instruction;
 use literal::Service;
-use platform::Platform;
 
 // What is asked for; a call of either kind by its word.
 #[derive(Drop)]
@@ -59,34 +56,4 @@ pub fn asked_in(page: &[u8], regs: &[u32], i: Instruction) -> Asked
         ),
         Instruction::Unlisted => Asked::NoTransfer,
     }
-}
-
-fn asks(a: Asked) -> bool
-    ensures { result ≡ asks a }
-{
-    match a {
-        Asked::NoTransfer => false,
-        Asked::Call(_) => true,
-        Asked::TailCall(_) => true,
-        Asked::Return => true,
-    }
-}
-
-// What a page's own run finds at a place, with these registers.
-pub fn own_instruction(
-    page: &[u8],
-    platform: Platform,
-    place: u16,
-    regs: &[u32],
-    in_image: bool,
-) -> Instruction
-    ensures { result ≡ own_of in_image (asked_in page.now regs.now (instruction_at (program_of page.now platform) place)) (instruction_at (program_of page.now platform) place) }
-{
-    let i = place::instruction_at(page, platform, place);
-    if in_image {
-        if asks(asked_in(page, regs, i)) {
-            return Instruction::Unlisted;
-        }
-    }
-    i
 }

@@ -16,15 +16,15 @@ use Rattle.form.proofs.Decisions.{by_rest}
 use Rattle.short_form.specs.ShortStoring.{PackAnswer, seen_packed, read_rules}
 use Rattle.short_form.specs.declared.Packed.{Packed}
 use Rattle.packing.specs.Packing.{pack, room_after_pack, unpack_decision, room_after_unpack}
-use Rattle.packing.proofs.Theorems.{room_of_54, form_packed, bytes_unpacked}
+use Rattle.packing.proofs.Theorems.{room_of_49, form_packed, bytes_unpacked}
 use Rattle.conversion.specs.Conversion.{packed, unpacked}
 
 pub line_length : (why : Refusal) → length (refused_text (refusal_number why) (refusal_values why)) ≤ 64
 line_length why = omega (arith, refused_length (refusal_number why) (refusal_values why), few_values why)
 
-module _ (stored room : List ℕ) (h : (k : ℕ) → get_or stored k 0 < 256) (l : 54 ≤ length room) (a : Packed) (e : seen_packed a ≡ pack stored room) where
+module _ (stored room : List ℕ) (h : (k : ℕ) → get_or stored k 0 < 256) (l : 49 ≤ length room) (a : Packed) (e : seen_packed a ≡ pack stored room) where
   decided : decision_of a.verdict ≡ decision (load_rules stored)
-  decided = ap (λ (x : PackAnswer). x.decision) e ∙ room_of_54 stored room h l
+  decided = ap (λ (x : PackAnswer). x.decision) e ∙ room_of_49 stored room h l
 
   pub pack_refused : (why : Refusal) → a.verdict ≡ Refused why → refused_text (refusal_number why) (refusal_values why) ≡ packed stored
   pack_refused why t = rw (sym decided ∙ ap decision_of t)
@@ -32,9 +32,9 @@ module _ (stored room : List ℕ) (h : (k : ℕ) → get_or stored k 0 < 256) (l
   pub pack_accepted : a.verdict ≡ Accepted → take a.length (room_after_pack stored room) ≡ packed stored
   pack_accepted t =
       let d : decision (load_rules stored) ≡ accepted = sym decided ∙ ap decision_of t in
-      rw (ap (λ (x : PackAnswer). x.length) e, d) (form_packed stored room (room_of_54 stored room h l ∙ d))
+      rw (ap (λ (x : PackAnswer). x.length) e, d) (form_packed stored room (room_of_49 stored room h l ∙ d))
 
-module _ (bytes room : List ℕ) (m : length room ≡ 50) (v : Verdict) (e : decision_of v ≡ unpack_decision bytes room) where
+module _ (bytes room : List ℕ) (m : length room ≡ 44) (v : Verdict) (e : decision_of v ≡ unpack_decision bytes room) where
   read_decided : decision_of v ≡ decision (read_rules bytes)
   read_decided = e ∙ sym (by_rest (length room) (read_rules bytes) m)
 

@@ -23,6 +23,6 @@ unpacked_back bytes h t =
     let r = stored_reads bytes h t in
     rw (t, r.0) (ap short_form r.1 ∙ same_form bytes h t)
 
--- so `unpack` may stop reading behind 76 bytes
-pub long_refused : (bytes : List ℕ) → ((k : ℕ) → get_or bytes k 0 < 256) → 75 < length bytes → unpacked bytes ≡ refused_text 9 []
+-- so `unpack` may stop reading behind 66 bytes
+pub long_refused : (bytes : List ℕ) → ((k : ℕ) → get_or bytes k 0 < 256) → 65 < length bytes → unpacked bytes ≡ refused_text 9 []
 long_refused bytes h l = rw (too_long bytes h l)

@@ -22,7 +22,7 @@ pub fn pack(stored: &[u8], room: &mut [u8]) -> Written
     ensures { (result ≡ written_of (packed stored.now) (length room.old))
         × (room.new ≡ placed (packed stored.now) room.old) }
 {
-    let mut short = [0u8; 54];
+    let mut short = [0u8; 49];
     let answer = packing::pack(stored, &mut short);
     let verdict = answer.verdict;
     match verdict {
@@ -36,7 +36,7 @@ pub fn unpack(bytes: &[u8], room: &mut [u8]) -> Written
     ensures { (result ≡ written_of (unpacked bytes.now) (length room.old))
         × (room.new ≡ placed (unpacked bytes.now) room.old) }
 {
-    let mut stored = [0u8; 50];
+    let mut stored = [0u8; 44];
     let verdict = packing::unpack(bytes, &mut stored);
     match verdict {
         Verdict::Refused(why) => place_refusal(why, room),

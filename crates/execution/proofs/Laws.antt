@@ -93,7 +93,7 @@ behind_near page place next e = rw e (by (opens32 (first_of page (place / 2))))
 abbrev pub NotData : Instruction → Type 0
 NotData i = (operation : Operation) → i ≡ instruction.Data operation → ⊥
 
-pub not_data_lem : (i : Instruction) → NotData i → not_data i ≡ i
+not_data_lem : (i : Instruction) → NotData i → not_data i ≡ i
 unfolding not_data
 not_data_lem (instruction.Data operation) h = absurd (h operation refl)
 not_data_lem (instruction.Memory access) h = refl
@@ -104,6 +104,16 @@ not_data_lem (instruction.B imm11) h = refl
 not_data_lem (instruction.Service n) h = refl
 not_data_lem instruction.Unlisted h = refl
 
-pub past_page : (program : Program) (place : ℕ) → length program.page ≤ 256 → 128 ≤ place → instruction_at program place ≡ instruction.Unlisted
+past_page : (program : Program) (place : ℕ) → length program.page ≤ 256 → 128 ≤ place → instruction_at program place ≡ instruction.Unlisted
 unfolding instruction_at
 past_page program place l h = rw (le-ltb (place / 2) (length program.page / 4) (omega arith))
+
+-- what stands there, data processing aside, is executed
+pub stands : (program : Program) (place : ℕ) (i : Instruction) → length program.page ≤ 256 → i ≡ instruction_at program place → NotData i
+    → executable place i ≡ instruction_at program place
+unfolding executable
+stands program place i l e d = by (ltb place 128) refl
+  where
+    by : (t : Bool) → ltb place 128 ≡ t → cond t (not_data i) instruction.Unlisted ≡ instruction_at program place
+    by true h = not_data_lem i d ∙ e
+    by false h = sym (past_page program place l (ltb-false place 128 h))

@@ -18,25 +18,25 @@ use Rattle.form.proofs.Ranges.{InRange}
 
 -- a table that begins with the length
 module _ (n : ℕ) (rules : List Rule) where
-  pub other_length : (n ≡ 50 → ⊥) → refused 6 [] ≡ decision (length_rule n ∷ rules)
-  other_length h = rw (ne_eqb n 50 h)
+  pub other_length : (n ≡ 44 → ⊥) → refused 6 [] ≡ decision (length_rule n ∷ rules)
+  other_length h = rw (ne_eqb n 44 h)
 
   -- with its length, the rest decides
-  pub by_rest : n ≡ 50 → decision rules ≡ decision (length_rule n ∷ rules)
-  by_rest h = rw (eq-eqb n 50 h)
+  pub by_rest : n ≡ 44 → decision rules ≡ decision (length_rule n ∷ rules)
+  by_rest h = rw (eq-eqb n 44 h)
 
 -- in the code
 pub by_values : (vs values : List ℕ) (v w : Verdict) → vs ≡ values → decision_of v ≡ decision (range_rules vs) → v ≡ w → decision_of w ≡ decision (range_rules values)
 by_values vs values v w same e told = ap decision_of (sym told) ∙ e ∙ ap (λ (xs : List ℕ). decision (range_rules xs)) same
 
 module _ (n : ℕ) (values : List ℕ) where
-  pub decided : (vs : List ℕ) (v w : Verdict) → n ≡ 50 → vs ≡ values → decision_of v ≡ decision (range_rules vs) → v ≡ w → decision_of w ≡ decision (form_rules n values)
+  pub decided : (vs : List ℕ) (v w : Verdict) → n ≡ 44 → vs ≡ values → decision_of v ≡ decision (range_rules vs) → v ≡ w → decision_of w ≡ decision (form_rules n values)
   decided vs v w h same e told = by_values vs values v w same e told ∙ by_rest n (range_rules values) h
 
-  pub passed : decision (form_rules n values) ≡ accepted → (n ≡ 50) × InRange values
+  pub passed : decision (form_rules n values) ≡ accepted → (n ≡ 44) × InRange values
   passed e =
-      let p = passes_lem (eqb n 50) 6 [] _ e in
-      (eqb-true n 50 p.0, p.1)
+      let p = passes_lem (eqb n 44) 6 [] _ e in
+      (eqb-true n 44 p.0, p.1)
 
 -- ---- what a call gives
 
@@ -46,7 +46,7 @@ loaded bytes d s e same =
     ap (λ (w : Record). record { decision = d; loaded = w }) same
     ∙ ap (λ (w : Decision). record { decision = w; loaded = when_accepted w (record_in bytes) fresh_record }) e
 
--- ---- a record that was read, on its way to room of 50 bytes
+-- ---- a record that was read, on its way to room of 44 bytes
 
 module _ (rules : List Rule) (s : Record) (room : List ℕ) where
   -- the decision says what becomes of the room
@@ -54,7 +54,7 @@ module _ (rules : List Rule) (s : Record) (room : List ℕ) where
       → when_accepted d (record_bytes s) room ≡ when_accepted (decision (length_rule (length room) ∷ rules)) (record_bytes s) room
   room_by d e = ap (λ (w : Decision). when_accepted w (record_bytes s) room) e
 
-  module _ (m : length room ≡ 50) (a : ReadBack) (e : seen_read_back a ≡ record { decision = decision rules; loaded = when_accepted (decision rules) s fresh_record }) where
+  module _ (m : length room ≡ 44) (a : ReadBack) (e : seen_read_back a ≡ record { decision = decision rules; loaded = when_accepted (decision rules) s fresh_record }) where
     pub told : (v : Verdict) → a.verdict ≡ v → decision_of v ≡ decision (length_rule (length room) ∷ rules)
     told v t = ap decision_of (sym t) ∙ ap (λ (x : LoadAnswer). x.decision) e ∙ by_rest (length room) rules m
 
@@ -62,5 +62,5 @@ module _ (rules : List Rule) (s : Record) (room : List ℕ) where
     put t =
         let d = told Accepted t in
         let same : a.loaded ≡ s = ap (λ (x : LoadAnswer). x.loaded) e ∙ ap (λ (w : Decision). when_accepted w s fresh_record) (by_rest (length room) rules m ∙ sym d) in
-        let written : room_with a.loaded room ≡ record_bytes a.loaded = rw (eq-eqb (length room) 50 m) in
+        let written : room_with a.loaded room ≡ record_bytes a.loaded = rw (eq-eqb (length room) 44 m) in
         written ∙ ap record_bytes same ∙ room_by accepted d

@@ -1,4 +1,4 @@
--- What the range tests say of fifteen values.
+-- What the range tests say of thirteen values.
 use Prim.Native.Nat.{ℕ, zero, suc}
 use mathlib.Core.Path.{◌≡◌, refl, sym, ap, ◌∙◌}
 use mathlib.Core.Bool.{true, not}
@@ -7,7 +7,7 @@ use lib.Dec.{leb}
 use lib.ListN.{length, get_or}
 use Rattle.refusal.specs.Refusals.{accepted, rule, decision}
 use Rattle.refusal.proofs.Theorems.{passes_lem}
-use Rattle.state.specs.FitRecord.{sp_fits, fp_fits}
+use Rattle.state.specs.FitRecord.{sp_fits}
 use Rattle.layout.specs.StoredForm.{offset_in_range, offset_stands, range_rules}
 use Rattle.layout.proofs.Fields.{whole}
 use Rattle.layout.proofs.Theorems.{Stands, stand_tests}
@@ -15,7 +15,7 @@ use Rattle.layout.proofs.Theorems.{Stands, stand_tests}
 abbrev pub InRange : List ℕ → Type 0
 InRange values = decision (range_rules values) ≡ accepted
 
-module _ (values : List ℕ) (l : length values ≡ 15) where
+module _ (values : List ℕ) (l : length values ≡ 13) where
   abbrev kind : ℕ
   kind = get_or values 9 0
 
@@ -30,11 +30,9 @@ module _ (values : List ℕ) (l : length values ≡ 15) where
       ∷ rule (not (offset_in_range kind offset)) 7 (37 ∷ [])
       ∷ rule (not (leb (get_or values 11 0) 127)) 7 (41 ∷ [])
       ∷ rule (not (leb (get_or values 12 0) 15)) 7 (43 ∷ [])
-      ∷ rule (not (fp_fits (get_or values 13 0))) 7 (44 ∷ [])
-      ∷ rule (not (leb (get_or values 14 0) 4095)) 7 (48 ∷ [])
       ∷ []
       )
-  range_tests = ap (λ (vs : List ℕ). decision (range_rules vs)) (sym (whole 15 values l))
+  range_tests = ap (λ (vs : List ℕ). decision (range_rules vs)) (sym (whole 13 values l))
 
   stands : (k o : ℕ) → offset_in_range k o ≡ true → offset_stands k o ≡ true
   stands zero o t = t

@@ -28,7 +28,7 @@ loaded_range bytes e =
     ap (λ (vs : List ℕ). decision (range_rules vs)) (same_values bytes (ranged (decode stored_form bytes) refl p.1)) ∙ p.1
 
 -- and is stored back, to any room
-pub loaded_stores : (bytes room : List ℕ) → ((k : ℕ) → get_or bytes k 0 < 256) → length room ≡ 50 → (load_record bytes).decision ≡ accepted
+pub loaded_stores : (bytes room : List ℕ) → ((k : ℕ) → get_or bytes k 0 < 256) → length room ≡ 44 → (load_record bytes).decision ≡ accepted
     → (store_decision (load_record bytes).loaded room ≡ accepted) × (room_after (load_record bytes).loaded room ≡ bytes)
 loaded_stores bytes room h l e =
     let values = decode stored_form bytes in

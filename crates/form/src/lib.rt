@@ -1,4 +1,4 @@
-// Storing a record and reading it back: 50 bytes, and the range of each value.
+// Storing a record and reading it back: 44 bytes, and the range of each value.
 ghost use Rattle.std.specs.Prelude.{◌≡◌};
 ghost use Rattle.layout.specs.StoredForm.{offset_in_range, range_rules};
 ghost use Rattle.refusal.specs.Refusals.{decision, decision_of};
@@ -28,7 +28,7 @@ fn offset_in_range(kind: u32, offset: u32) -> bool
 }
 
 // The values are in range, or where the first field starts that isn't. r0 to r7 have no test.
-pub fn in_range(values: [u32; 15]) -> Verdict
+pub fn in_range(values: [u32; 13]) -> Verdict
     ensures { decision_of result ≡ decision (range_rules values) }
 {
     if !state::sp_fits(values[8]) {
@@ -46,22 +46,16 @@ pub fn in_range(values: [u32; 15]) -> Verdict
     if values[12] > 15 {
         return Verdict::Refused(Refusal::FormRange(43));
     }
-    if !state::fp_fits(values[13]) {
-        return Verdict::Refused(Refusal::FormRange(44));
-    }
-    if values[14] > 4095 {
-        return Verdict::Refused(Refusal::FormRange(48));
-    }
     Verdict::Accepted
 }
 
 // ---- storing and reading back
 
-// Writes a record to room of 50 bytes.
+// Writes a record to room of 44 bytes.
 pub fn store(r: Record, room: &mut [u8]) -> Verdict
     ensures { (decision_of result ≡ store_decision r room.old) × (room.new ≡ room_after r room.old) }
 {
-    if room.len() != 50 {
+    if room.len() != 44 {
         return Verdict::Refused(Refusal::FormLength);
     }
     let ranged = in_range(layout::values_of(r));
@@ -78,7 +72,7 @@ pub fn store(r: Record, room: &mut [u8]) -> Verdict
 pub fn load(bytes: &[u8]) -> ReadBack
     ensures { seen_read_back result ≡ load_record bytes.now }
 {
-    if bytes.len() != 50 {
+    if bytes.len() != 44 {
         return ReadBack {
             verdict: Verdict::Refused(Refusal::FormLength),
             loaded: state::fresh_record(),

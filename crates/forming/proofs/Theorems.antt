@@ -15,7 +15,7 @@ module _ (bytes room : List ℕ) (h : holds_record bytes ≡ true) where
   pub stored_decision : store_decision (record_in bytes) room ≡ form_decision bytes room
   stored_decision =
       let p = held bytes h in
-      ap (λ (values : List ℕ). decision (form_rules (length room) values)) (same_values bytes p.1) ∙ rw (eq-eqb (length bytes) 50 p.0)
+      ap (λ (values : List ℕ). decision (form_rules (length room) values)) (same_values bytes p.1) ∙ rw (eq-eqb (length bytes) 44 p.0)
 
   pub stored_room : room_after (record_in bytes) room ≡ form_room bytes room
   stored_room = ap (λ (d : Decision). when_accepted d (record_bytes (record_in bytes)) room) stored_decision

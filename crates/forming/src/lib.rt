@@ -1,4 +1,4 @@
-// Records in lent room of 50 bytes, as a host's calls take and give them.
+// Records in lent room of 44 bytes, as a host's calls take and give them.
 ghost use Rattle.std.specs.Prelude.{◌≡◌};
 ghost use Rattle.refusal.specs.Refusals.{decision_of};
 ghost use Rattle.forming.specs.Crossing.{form_decision, form_room};
@@ -10,7 +10,7 @@ pub fn formed(bytes: &[u8], room: &mut [u8]) -> Verdict
     ensures { (decision_of result ≡ form_decision bytes.now room.old)
         × (room.new ≡ form_room bytes.now room.old) }
 {
-    if room.len() != 50 {
+    if room.len() != 44 {
         return Verdict::Refused(Refusal::FormLength);
     }
     let answer = form::load(bytes);

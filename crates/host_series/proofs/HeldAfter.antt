@@ -59,8 +59,6 @@ module _ (bytes : List ℕ) (h : Bytes bytes) where
     sp = decode_below stored_form 8 bytes (omega arith) h;
     offset = offset_below (get_or (decode stored_form bytes) 9 0) _ (decode_below stored_form 10 bytes (omega arith) h);
     place = decode_below stored_form 11 bytes (omega arith) h;
-    fp = decode_below stored_form 13 bytes (omega arith) h;
-    page = decode_below stored_form 14 bytes (omega arith) h;
   }
 
 -- ---- a fit record
@@ -96,8 +94,6 @@ fit_held setting r ram e f w =
       sp = sp_below r.sp parts.0;
       offset = base_below r.base (length setting.external) (external_below (length setting.external) e) parts.1;
       place = place_below setting.program r.place f.place_fits;
-      fp = w.fp;
-      page = w.page;
     }
 
 -- ---- a run
@@ -109,4 +105,4 @@ held_after setting p e total r ram q h m =
     let after = admitted_allowed setting _ _ (admits_after (machine setting) (code_keeps setting) total r ram q) in
     fit_held setting _ _ after.data_allowed after.fits
     (run_keeps (instruction_of setting) Words (λ s after w. words_kept setting p e s after w)
-    total 0 r ram (record { eight = h.eight; words = h.words; fp = h.fp; page = h.page; bytes = m }))
+    total 0 r ram (record { eight = h.eight; words = h.words; bytes = m }))

@@ -40,4 +40,4 @@ module _ (bytes : List ℕ) (v : Verdict) (e : decision_of v ≡ decision (held_
       → seen a left ≡ run r → h ≡ record { stop = stop_numbers (reason_of a.stop); steps = a.steps } → room ≡ room_with a.after bytes
       → crossed_by h room left ≡ host_call areas run bytes ram
   record_crosses areas r a room left told same gives n w =
-      rw (holds told, n, w, eq-eqb (length bytes) 50 (held bytes (holds told)).0, ← same, ← gives)
+      rw (holds told, n, w, eq-eqb (length bytes) 44 (held bytes (holds told)).0, ← same, ← gives)

@@ -4,7 +4,7 @@ ghost use Rattle.refusal.specs.Refusals.{when_accepted, decision_of};
 ghost use Rattle.platform.specs.Programs.{program_of, setting_of};
 ghost use Rattle.stop.specs.Stops.{reason_of};
 ghost use Rattle.image.specs.Images.{image_of};
-ghost use Rattle.image_instruction.specs.ImageInstructions.{image_setting_of};
+ghost use Rattle.image_runs.specs.ImageRuns.{image_setting_of};
 ghost use Rattle.layout.specs.StoredForm.{room_with};
 ghost use Rattle.crossing.specs.Numbers.{refused_with, stop_numbers};
 ghost use Rattle.hosting.specs.Crossed.{crossed_by};
@@ -68,11 +68,12 @@ pub fn run(
     given_back(answer, bytes)
 }
 
-// In an image: the page is the record's.
+// In a page of an image.
 pub fn run_in_image(
     image: &[u8],
     index: &[u8],
     platform: Platform,
+    number: u32,
     ram: &mut [u8],
     external: &[u8],
     window: Window,
@@ -80,16 +81,24 @@ pub fn run_in_image(
     budget: u32,
 ) -> Hosted
     ensures { crossed_by result bytes.new ram.new
-        ≡ host_image_run (image_setting_of (image_of image.now index.now platform) external.now window) budget bytes.old ram.old }
+        ≡ host_image_run (image_setting_of (image_of image.now index.now platform) external.now window) number budget bytes.old ram.old }
 {
     let held = layout::holds_record(&bytes[..]);
     if let Verdict::Refused(_) = held {
-        let areas = image::of_image(image, platform);
+        let areas = image_runs::of_areas(
+            image,
+            index,
+            platform,
+            number,
+            &ram[..],
+            external,
+            window,
+        );
         return no_record(areas, held);
     }
     let before = layout::record_in(&bytes[..]);
     let answer = image_runs::run(
-        image, index, platform, ram, external, window, before, budget,
+        image, index, platform, number, ram, external, window, before, budget,
     );
     given_back(answer, bytes)
 }

@@ -26,7 +26,7 @@ pub fn fits(image: &[u8]) -> bool
     image.len() % 256 == 0
 }
 
-pub fn of_image(image: &[u8], platform: Platform) -> Verdict
+fn of_image(image: &[u8], platform: Platform) -> Verdict
     ensures { decision_of result ≡ decision (profile_rule (profile_of platform.profile) ∷ image_rule image.now ∷ []) }
 {
     if !platform::is_known(platform) {

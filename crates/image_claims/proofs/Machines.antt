@@ -1,4 +1,5 @@
--- The machine of an image leaves what isn't refused and keeps to its window; and the code's calls are calls of it.
+-- The machine of a page of an image leaves what isn't refused and keeps to its window, as a lone page's does; and the code's calls are
+-- calls of it.
 use Prim.Native.Nat.{ℕ}
 use mathlib.Core.List.{List}
 use mathlib.Core.Path.{◌≡◌}
@@ -8,41 +9,42 @@ use Rattle.refusal.specs.Refusals.{accepted}
 use Rattle.series.specs.Machine.{called_by}
 use Rattle.series.proofs.Keeps.{keeps_too, KeepsAdmitted, KeepsAll, keeps_admitted}
 use Rattle.series.proofs.Windows.{WithinWindow}
-use Rattle.instruction.specs.Fitness.{ServiceAt}
-use Rattle.image_instruction.specs.ImageInstructions.{ImageSetting, setting_in, image_instruction}
-use Rattle.image_instruction.specs.ImageFitness.{FitInImage, KnownInImage}
-use Rattle.image_instruction.proofs.Keeps.{image_keeps, image_starts}
-use Rattle.image_instruction.proofs.Windows.{image_reads_inside, image_writes_inside}
-use Rattle.image_admission.specs.ImageRefusals.{image_decision}
-use Rattle.image_claims.specs.ImageMachine.{whole_image, ImageCall, of_run, of_step, handed_to, gave_by, image_machine}
-use Rattle.image_claims.proofs.Admitted.{accepted_fits, fits_accepted, allowed_image}
+use Rattle.instruction.specs.Fitness.{ServiceAt, Known}
+use Rattle.instruction.specs.Instructions.{instruction_of}
+use Rattle.admission.specs.RunRefusals.{run_decision}
+use Rattle.image_runs.specs.ImageRuns.{image_decision}
+use Rattle.claims.proofs.Machines.{lone_page_keeps}
+use Rattle.claims.proofs.Windows.{within_window}
+use Rattle.image_claims.specs.ImageMachine.{InPage, program_in, alone, image_page, ImageCall, of_run, of_step, handed_to, gave_by, image_machine}
+use Rattle.image_claims.proofs.Admitted.{byte_is_count, to_alone, from_alone}
 
-pub whole_image_keeps : KeepsAll whole_image
-whole_image_keeps = record {
+pub image_page_keeps : KeepsAll image_page
+image_page_keeps = record {
   keeps = λ x r ram a.
-      let here = accepted_fits x r ram a in
-      keeps_too (FitInImage x) (λ s after. image_decision x s after ≡ accepted) (ServiceAt (setting_in x r).program r) KnownInImage
-      (fits_accepted x here.0) (image_instruction x r ram) (image_keeps x (allowed_image x here.0) r ram here.1);
+      let here = to_alone x r ram a in
+      keeps_too (λ s after. run_decision (alone x) s after ≡ accepted) (λ s after. image_decision x.setting x.number s after ≡ accepted)
+      (ServiceAt (program_in x) r) Known (from_alone x here.0) (instruction_of (alone x) r ram) (lone_page_keeps.keeps (alone x) r ram here.1);
   starts = λ x r ram a.
-      let here = accepted_fits x r ram a in
-      image_starts x (allowed_image x here.0) r ram here.1;
+      let here = to_alone x r ram a in
+      rw (byte_is_count x here.0) (lone_page_keeps.starts (alone x) r ram here.1);
 }
 
-by_length : (x : ImageSetting) (r : Record) (a b : List ℕ) → length a ≡ length b → image_decision x r a ≡ image_decision x r b
+by_length : (x : InPage) (r : Record) (a b : List ℕ) → length a ≡ length b
+    → image_decision x.setting x.number r a ≡ image_decision x.setting x.number r b
 unfolding image_decision
 by_length x r a b e = rw e
 
-pub image_within_window : WithinWindow whole_image
+pub image_within_window : WithinWindow image_page
 image_within_window = record {
-  reads_inside = image_reads_inside;
-  writes_inside = image_writes_inside;
+  reads_inside = λ x. within_window.reads_inside (alone x);
+  writes_inside = λ x. within_window.writes_inside (alone x);
   refuses_by_length = by_length;
 }
 
 -- the contracts of `run` and `step` are what the plain machine, or the refusal, gives
-meets : (c : ImageCall) → gave_by c ≡ called_by whole_image (handed_to c)
+meets : (c : ImageCall) → gave_by c ≡ called_by image_page (handed_to c)
 meets (of_run κs a x s contract) = contract
 meets (of_step κs a x s contract) = contract
 
-pub image_machine_keeps : (x : ImageSetting) → KeepsAdmitted (image_machine x)
-image_machine_keeps = keeps_admitted whole_image whole_image_keeps ImageCall handed_to gave_by meets
+pub image_keeps : (x : InPage) → KeepsAdmitted (image_machine x)
+image_keeps = keeps_admitted image_page image_page_keeps ImageCall handed_to gave_by meets

@@ -16,8 +16,7 @@ use Rattle.image.specs.Images.{Image, pages_in, page_at, byte_of}
 use Rattle.image.specs.Index.{count_at, counts_in, equal_lists, replace_decision, replaced, after_replace}
 use Rattle.image.proofs.Laws.{counts_length, count_among, true_equal}
 use Rattle.image.proofs.Theorems.{HasPage, replace_accepted}
-use Rattle.image_instruction.specs.ImageInstructions.{image_setting_of}
-use Rattle.image_admission.specs.ImageRefusals.{image_run_rules, image_decision}
+use Rattle.image_runs.specs.ImageRuns.{image_setting_of, image_run_rules, image_decision}
 use Rattle.series.specs.HandedOn.{Standing, InSeries, own, other, left_by, left_by_all, HandedOn}
 use Rattle.series.proofs.Theorems.{stays}
 use Rattle.image_claims.specs.Replacements.{Building, standing, on_platform_of, SamePlatform, image_after, Replacements}
@@ -65,12 +64,12 @@ module _ (image : Image) (p : ℕ) (page : List ℕ) (e : replace_decision image
 
 -- ---- a right index
 
-right_index : (image : Image) → image.index ≡ counts_in image → (external : List ℕ) (window : Window) (r : Record) (ram : List ℕ)
-    → image_decision (image_setting_of image external window) r ram ≡ refused 21 [] → ⊥
+right_index : (image : Image) → image.index ≡ counts_in image → (external : List ℕ) (window : Window) (p : ℕ) (r : Record) (ram : List ℕ)
+    → image_decision (image_setting_of image external window) p r ram ≡ refused 21 [] → ⊥
 unfolding image_decision
-right_index image fresh external window r ram e =
-    true≢false (refusing_line (λ test n values. (eqb n 21 && test) ≡ false) (image_run_rules (image_setting_of image external window) r ram)
-    (refl, (refl, (refl, (refl, (ap not same, (refl, (refl, (refl, (refl, (refl, (refl, (refl, (refl, (refl, tt)))))))))))))) 21 [] e)
+right_index image fresh external window p r ram e =
+    true≢false (refusing_line (λ test n values. (eqb n 21 && test) ≡ false) (image_run_rules (image_setting_of image external window) p r ram)
+    (refl, (refl, (refl, (refl, (ap not same, (refl, (refl, (refl, (refl, (refl, (refl, (refl, (refl, tt))))))))))))) 21 [] e)
   where
     same : equal_lists image.index (counts_in image) ≡ true
     same = rw (← fresh) (true_equal image.index)
@@ -173,8 +172,8 @@ module _ (b : Building) (m : MeetsBuilding b) where
   pub replacements : Replacements b
   replacements = record {
     index-is-fresh = λ first e cs h. all-fresh (b.built first) cs (standing (b.built first)) (m.built first e) h;
-    never-21 = λ first e cs h external window r ram.
-        right_index (image_after b (b.built first) cs) (all-fresh (b.built first) cs (standing (b.built first)) (m.built first e) h) external window r ram;
+    never-21 = λ first e cs h external window p r ram.
+        right_index (image_after b (b.built first) cs) (all-fresh (b.built first) cs (standing (b.built first)) (m.built first e) h) external window p r ram;
     page-put = λ c e.
         ap (λ (x : Image). page_at x.bytes (b.number c)) (left_accepted c e) ∙ put (b.handed c) (b.number c) (b.page c) (accepts c e);
     byte_put = λ c e. rw (left_accepted c e) (own_byte (b.handed c) (b.number c) (b.page c) (accepts c e));

@@ -6,8 +6,7 @@ use Rattle.state.specs.declared.Record.{Record}
 use Rattle.image.specs.Images.{Image, page_at, byte_of}
 use Rattle.image.specs.Index.{count_at, counts_in}
 use Rattle.series.specs.HandedOn.{Standing, InSeries, left_by_all, HandedOn}
-use Rattle.image_instruction.specs.ImageInstructions.{image_setting_of}
-use Rattle.image_admission.specs.ImageRefusals.{image_decision}
+use Rattle.image_runs.specs.ImageRuns.{image_setting_of, image_decision}
 
 -- calls that build or replace: what each was handed, whether it was refused, and the image and index that it left. An image holds the
 -- platform too
@@ -51,8 +50,8 @@ module _ (b : Building) where
         → (image_after (b.built first) cs).index ≡ counts_in (image_after (b.built first) cs)
     -- and so no run with that image is refused by 21
     pub never-21 : (first : b.Build) → b.build_told first ≡ accepted → (cs : List (InSeries b.Replace)) → InARow (b.built first) cs
-        → (external : List ℕ) (window : Window) (r : Record) (ram : List ℕ)
-        → image_decision (image_setting_of (image_after (b.built first) cs) external window) r ram ≡ refused 21 [] → ⊥
+        → (external : List ℕ) (window : Window) (p : ℕ) (r : Record) (ram : List ℕ)
+        → image_decision (image_setting_of (image_after (b.built first) cs) external window) p r ram ≡ refused 21 [] → ⊥
     -- a replacement that isn't refused puts the page at its number, and its count into the byte
     pub page-put : (c : b.Replace) → b.told c ≡ accepted → page_at (b.left c).bytes (b.number c) ≡ b.page c
     pub byte_put : (c : b.Replace) → b.told c ≡ accepted → byte_of (b.left c) (b.number c) ≡ count_at (b.left c) (b.number c)

@@ -11,7 +11,7 @@ use Rattle.image.specs.Images.{page_at}
 use Rattle.image_runs.specs.ImageRuns.{image_run_rules, image_decision}
 use Rattle.image_claims.specs.ImageMachine.{InPage, alone}
 use Rattle.image_claims.proofs.Admitted.{to_alone}
-use Rattle.image_claims.proofs.Machines.{image-page-keeps, image_within_window}
+use Rattle.image_claims.proofs.Machines.{image_page_keeps, image_within_window}
 use Rattle.host_series.specs.Host.{Bytes}
 use Rattle.host_series.proofs.HeldAfter.{held_after}
 use Rattle.host_series.proofs.HostCalls.{crossed_from, MeetsHost}
@@ -27,37 +27,22 @@ lent_bytes : (c : HostImageCall) → LentBytes (lent_to c)
 lent_bytes (of_run κs a x s bytes contract) = bytes
 lent_bytes (of_step κs a x s bytes contract) = bytes
 
-no_values : (x : ImageSetting) (r : Record) (ram : List ℕ) → values_in (image_decision x r ram) ≡ []
+-- a page of bytes is bytes
+page_bytes : (xs : List ℕ) (p : ℕ) → Bytes xs → Bytes (page_at xs p)
+page_bytes xs p h k = elim (dec_lt k 256) [
+  | yes l ↦ rw (get_or-take 256 (drop (256 * p) xs) k 0 l, get_or-drop (256 * p) xs k 0) (h _)
+  | no l ↦ rw (get_or-eq_default (page_at xs p) 0 {n = k} (omega (arith, length-take 256 (drop (256 * p) xs)))) (omega arith)
+]
+
+no_values : (x : InPage) (r : Record) (ram : List ℕ) → values_in (image_decision x.setting x.number r ram) ≡ []
 unfolding image_decision
 no_values x r ram =
-    bare_refusal (image_run_rules x r ram)
-    (refl, (refl, (refl, (refl, (refl, (refl, (refl, (refl, (refl, (refl, (refl, (refl, (refl, (refl, tt))))))))))))))
-
--- what a run in an image leaves of a record that came in bytes crosses as bytes again
-module _ (x : ImageSetting) (p : Bytes x.image.bytes) (e : Bytes x.external) where
-  abbrev Standing : Record → List ℕ → Type 0
-  Standing s after = (image_decision x s after ≡ accepted) × RegsWords s after
-
-  fp_below : (fp : ℕ) → (fp ≡ 0) ⊎ FrameInRam fp → fp < 2 ^ 32
-  fp_below fp (inl none) = omega arith
-  fp_below fp (inr frame) = omega (arith, frame.high)
-
-  standing_kept : (s : Record) (after : List ℕ) → Standing s after → Leaves Standing (image_instruction x s after)
-  standing_kept s after h =
-      let fits = accepted-fits x s after h.0 in
-      let there = in_image x.image s.page (fit-in x.image s.page s.place fits.1.place_fits).0 in
-      both-leave (image_instruction x s after) (keeps-leaves _ _ _ _ (whole-image-keeps.keeps x s after h.0))
-      (image-words-kept x p e s after (fp_below s.fp (fp-none-or-frame s.fp fits.1.fp_fits)) (omega (arith, there.1)) h.1)
-    where
-      both-leave : (f : Effect) → Leaves (λ t left. image_decision x t left ≡ accepted) f → Leaves RegsWords f → Leaves Standing f
-      both-leave (goes_on t left) a b = (a, b)
-      both-leave (exits exit t left) a b = (a, b)
-      both-leave (faults fault) a b = tt
-      both-leave unlisted a b = tt
+    bare_refusal (image_run_rules x.setting x.number r ram)
+    (refl, (refl, (refl, (refl, (refl, (refl, (refl, (refl, (refl, (refl, (refl, (refl, (refl, tt)))))))))))))
 
 pub meets_image_host : MeetsHost image_host
 meets_image_host = record {
-  keeps = image-page-keeps;
+  keeps = image_page_keeps;
   within = image_within_window;
   no_values = no_values;
   by_length = λ x a b e. rw e;
@@ -65,6 +50,6 @@ meets_image_host = record {
   lent_bytes = λ c. (lent_bytes c).bytes;
   held = λ c r a h.
       let x = (lent_to c).setting in
-      held_after (alone x) (page-bytes x.setting.image.bytes x.number (lent_bytes c).image) (lent_bytes c).external (lent_to c).budget r (lent_to c).ram
+      held_after (alone x) (page_bytes x.setting.image.bytes x.number (lent_bytes c).image) (lent_bytes c).external (lent_to c).budget r (lent_to c).ram
       (to_alone x r (lent_to c).ram a).1 h (lent_bytes c).ram;
 }

@@ -1,50 +1,43 @@
--- Steps and runs in an image.
-use Rattle.std.specs.Prelude.{ℕ, Bool, true, false, List}
+-- Steps and runs in a page of an image. They refuse 18, 12, 13, 14, 21, then 2, 3, 20, then 41 to 44, then 5.
+use Rattle.std.specs.Prelude.{ℕ, List, ◌∷◌, ◌++◌, length}
+use Rattle.refusal.specs.Refusals.{Decision, Rule, decision}
+use Rattle.window.specs.declared.Window.{Window}
+use Rattle.platform.specs.Programs.{Setting, setting_of}
+use Rattle.image.specs.Images.{Image, program_at, byte_of, page_rules}
+use Rattle.image.specs.Index.{index_rule}
 use Rattle.state.specs.declared.Record.{Record}
-use Rattle.stop.specs.Stops.{Reason, budget, service, fault, refused}
-use Rattle.stop.specs.Stops as stops
-use Rattle.stop.specs.declared.Stop.{Stop}
-use Rattle.stop.specs.declared.Stop.TheVariants as stop
-use Rattle.plain.specs.PlainMachine.{Result, later, plain}
+use Rattle.admission.specs.RunRefusals.{lent_rules, record_rules}
+use Rattle.plain.specs.PlainMachine.{Result}
 use Rattle.plain.specs.Calls.{call_by}
-use Rattle.machine.specs.Runs.{own_instruction}
-use Rattle.image_instruction.specs.ImageInstructions.{ImageSetting, setting_in, image_instruction}
-use Rattle.image_admission.specs.ImageRefusals.{image_decision}
+use Rattle.instruction.specs.Instructions.{instruction_of}
 
--- the plain machine's run, or the refusal
-abbrev pub image_run_of : ImageSetting → ℕ → Record → List ℕ → Result
-image_run_of setting total r ram = call_by (image_decision setting r ram) (image_instruction setting) total r ram
+-- an image, the external data and the window of RAM
+pub record ImageSetting : Type 0 where
+  pub image : Image
+  pub external : List ℕ
+  pub window : Window
 
--- ---- the parts of the code's run
+abbrev pub image_setting_of : Image → List ℕ → Window → ImageSetting
+image_setting_of image external window = record { image = image; external = external; window = window }
 
--- one of two results, by whether a page's own run stopped at what it leaves unlisted
-abbrev pub if_unlisted : Reason → Result → Result → Result
-if_unlisted budget farther ended = ended
-if_unlisted (service exit) farther ended = ended
-if_unlisted (fault n) farther ended = ended
-if_unlisted stops.unlisted farther ended = farther
-if_unlisted (refused n values) farther ended = ended
+-- what an instruction in page p gets: the page as a program, the same data and window
+abbrev pub setting_at : ImageSetting → ℕ → Setting
+setting_at setting p = setting_of (program_at setting.image p) setting.external setting.window
 
--- from a page's own run, one instruction of the image if it stopped there
-abbrev pub linked_after : ImageSetting → Result → Result
-linked_after setting x = if_unlisted x.stop (later x.steps (plain (image_instruction setting) 1 0 x.rec x.ram)) x
+-- before the record is looked at: 18, 12, 13, 14, 21, 2, 3, 20
+abbrev pub image_area_rules : ImageSetting → ℕ → List ℕ → List Rule
+image_area_rules setting p ram =
+    page_rules setting.image p ++ (index_rule setting.image ∷ lent_rules setting.external setting.window ram)
 
--- a page's own run, and the transfer that it stopped at
-abbrev pub stretch_of : ImageSetting → ℕ → Record → List ℕ → Result
-stretch_of setting left r ram = linked_after setting (plain (own_instruction true (setting_in setting r)) left 0 r ram)
+-- then 41 to 44, 5; whether the place is fit goes by the index byte of page p
+abbrev pub image_run_rules : ImageSetting → ℕ → Record → List ℕ → List Rule
+image_run_rules setting p r ram =
+    image_area_rules setting p ram
+    ++ record_rules (program_at setting.image p) (byte_of setting.image p) (length setting.external) r
 
-abbrev pub is_unlisted : Stop → Bool
-is_unlisted stop.Budget = false
-is_unlisted (stop.Service n) = false
-is_unlisted (stop.ServiceBy n literal) = false
-is_unlisted (stop.Fault f) = false
-is_unlisted stop.Unlisted = true
-is_unlisted (stop.Refused why) = false
+unfoldable pub image_decision : ImageSetting → ℕ → Record → List ℕ → Decision
+image_decision setting p r ram = decision (image_run_rules setting p r ram)
 
-abbrev pub is_budget : Stop → Bool
-is_budget stop.Budget = true
-is_budget (stop.Service n) = false
-is_budget (stop.ServiceBy n literal) = false
-is_budget (stop.Fault f) = false
-is_budget stop.Unlisted = false
-is_budget (stop.Refused why) = false
+-- the plain machine's run in page p, or the refusal
+abbrev pub image_run_of : ImageSetting → ℕ → ℕ → Record → List ℕ → Result
+image_run_of setting p total r ram = call_by (image_decision setting p r ram) (instruction_of (setting_at setting p)) total r ram

@@ -1,4 +1,4 @@
--- From eight registers of 32 bits, FP and page of their widths, and RAM of bytes an instruction leaves such again, where the page and the external data are bytes.
+-- From eight registers of 32 bits and RAM of bytes an instruction leaves such again, where the page and the external data are bytes.
 use Prim.Native.Nat.{ℕ, ◌+◌, ◌-◌, ◌*◌, ◌/◌, ◌%◌, ◌^◌, ◌<◌}
 use native.Mathlib.Omega.{arith}
 use mathlib.Core.Bool.{Bool, true, false, cond}
@@ -55,12 +55,10 @@ use Rattle.place.specs.Places.{instruction_at, following}
 use Rattle.instruction.specs.Instructions.{end_at, branch_to, branch_if, exit_of, served_by, served, effect_of, instruction_of}
 use Rattle.instruction.proofs.Words.{Below, below_set, below_take, below_store, loaded_word, extended_word, WordWritten, InWidth, in_width}
 
--- eight registers of 32 bits, FP and page of their widths, and RAM of bytes
+-- eight registers of 32 bits, and RAM of bytes
 pub record Words (r : Record) (ram : List ℕ) : Type 0 where
   pub eight : length r.regs ≡ 8
   pub words : Below (2 ^ 32) r.regs
-  pub fp : r.fp < 2 ^ 32
-  pub page : r.page < 2 ^ 16
   pub bytes : Below 256 ram
 
 -- ---- loads
@@ -229,12 +227,12 @@ module _ (setting : Setting) (p : Below 256 setting.program.page) (e : Below 256
   unfolding end_at applied
   end_words end k place (does w after) l =
       let regs = written_lem w.register l.0 in
-      k _ _ (record { eight = regs.0; words = regs.1; fp = h.fp; page = h.page; bytes = l.1 })
+      k _ _ (record { eight = regs.0; words = regs.1; bytes = l.1 })
   end_words end k place (fails fault) l = tt
 
   moved_lem : (place : ℕ) → Words (with_place r place) ram
   unfolding with_place
-  moved_lem place = record { eight = h.eight; words = h.words; fp = h.fp; page = h.page; bytes = h.bytes }
+  moved_lem place = record { eight = h.eight; words = h.words; bytes = h.bytes }
 
   branch_words : (t : Target) → Leaves Words (branch_to r ram t)
   unfolding branch_to

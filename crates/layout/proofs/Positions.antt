@@ -59,9 +59,9 @@ module _ (test : Field → Test) (n kind : ℕ) where
 
 -- ---- positions
 
--- the bytes before each field of the stored form: r0 to r7, SP, base kind, offset, place, flags, FP, page
-pub positions : map (λ (k : ℕ). length_of (take k stored_form)) (0 ∷ 1 ∷ 2 ∷ 3 ∷ 4 ∷ 5 ∷ 6 ∷ 7 ∷ 8 ∷ 9 ∷ 10 ∷ 11 ∷ 12 ∷ 13 ∷ 14 ∷ [])
-    ≡ 0 ∷ 4 ∷ 8 ∷ 12 ∷ 16 ∷ 20 ∷ 24 ∷ 28 ∷ 32 ∷ 36 ∷ 37 ∷ 41 ∷ 43 ∷ 44 ∷ 48 ∷ []
+-- the bytes before each field of the stored form: r0 to r7, SP, base kind, offset, place, flags
+pub positions : map (λ (k : ℕ). length_of (take k stored_form)) (0 ∷ 1 ∷ 2 ∷ 3 ∷ 4 ∷ 5 ∷ 6 ∷ 7 ∷ 8 ∷ 9 ∷ 10 ∷ 11 ∷ 12 ∷ [])
+    ≡ 0 ∷ 4 ∷ 8 ∷ 12 ∷ 16 ∷ 20 ∷ 24 ∷ 28 ∷ 32 ∷ 36 ∷ 37 ∷ 41 ∷ 43 ∷ []
 positions = refl
 
 pub form_length_lem : length_of stored_form ≡ form_length

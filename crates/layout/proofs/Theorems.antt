@@ -71,13 +71,13 @@ own_stands (External offset) = refl
 abbrev pub Stands : List ℕ → Type 0
 Stands values = decision (stand_rules values) ≡ accepted
 
--- the lines of a table, one after the other; r0 to r7, SP, the place, FP and the page have none that can fail
-pub stand_tests : (values : List ℕ) → length values ≡ 15
+-- the lines of a table, one after the other; r0 to r7, SP and the place have none that can fail
+pub stand_tests : (values : List ℕ) → length values ≡ 13
     → decision (stand_rules values)
     ≡ decision (rule (not (leb (get_or values 9 0) 2)) 255 (36 ∷ []) ∷ rule (not (offset_stands (get_or values 9 0) (get_or values 10 0))) 255 (37 ∷ []) ∷ rule (not (leb (get_or values 12 0) 15)) 255 (43 ∷ []) ∷ [])
-stand_tests values l = ap (λ (vs : List ℕ). decision (stand_rules vs)) (sym (whole 15 values l))
+stand_tests values l = ap (λ (vs : List ℕ). decision (stand_rules vs)) (sym (whole 13 values l))
 
-stands_parts : (values : List ℕ) → length values ≡ 15 → Stands values
+stands_parts : (values : List ℕ) → length values ≡ 13 → Stands values
     → (get_or values 9 0 ≤ 2) × (offset_stands (get_or values 9 0) (get_or values 10 0) ≡ true) × (get_or values 12 0 ≤ 15)
 stands_parts values l t =
     let kind = passes_lem (leb (get_or values 9 0) 2) 255 (36 ∷ []) _ (sym (stand_tests values l) ∙ t) in
@@ -90,38 +90,38 @@ stands_parts values l t =
 pub record_back : (r : Record) → length r.regs ≡ 8 → record_of (values_of r) ≡ r
 record_back r l =
     let e = whole 8 r.regs l in
-    let more = r.sp ∷ kind_of r.base ∷ offset_of r.base ∷ r.place ∷ flags_number r.flags ∷ r.fp ∷ r.page ∷ [] in
+    let more = r.sp ∷ kind_of r.base ∷ offset_of r.base ∷ r.place ∷ flags_number r.flags ∷ [] in
     ap (λ (regs : List ℕ). record_of (regs ++ more)) (sym e) ∙ rw (e, base_back r.base, flags_back r.flags)
 
 own_values : (r : Record) → length r.regs ≡ 8 → Stands (values_of r)
 own_values r l =
-    let more = r.sp ∷ kind_of r.base ∷ offset_of r.base ∷ r.place ∷ flags_number r.flags ∷ r.fp ∷ r.page ∷ [] in
+    let more = r.sp ∷ kind_of r.base ∷ offset_of r.base ∷ r.place ∷ flags_number r.flags ∷ [] in
     subst (λ (regs : List ℕ). Stands (regs ++ more)) (whole 8 r.regs l)
     (rw (le-leb (kind_of r.base) 2 (kind_small r.base), own_stands r.base, le-leb (flags_number r.flags) 15 (number_small r.flags)))
 
-pub values_back : (values : List ℕ) → length values ≡ 15 → Stands values → values_of (record_of values) ≡ values
+pub values_back : (values : List ℕ) → length values ≡ 13 → Stands values → values_of (record_of values) ≡ values
 values_back values l t =
     let p = stands_parts values l t in
     let b = numbers_back (get_or values 9 0) (get_or values 10 0) p.0 p.1 in
-    let e : elements 7 8 values ≡ drop 8 values =
-    elements_are 7 8 values (omega arith) ∙ take_all 7 (drop 8 values) (omega (arith, length-drop 8 values)) in
+    let e : elements 5 8 values ≡ drop 8 values =
+    elements_are 5 8 values (omega arith) ∙ take_all 5 (drop 8 values) (omega (arith, length-drop 8 values)) in
     rw (b.0, b.1, number_back (get_or values 12 0) p.2)
     (ap (λ (rest : List ℕ). take 8 values ++ rest) e ∙ take-append-drop 8 values)
 
 -- ---- bytes that hold a record
 
-pub held : (bytes : List ℕ) → holds_record bytes ≡ true → (length bytes ≡ 50) × Stands (decode stored_form bytes)
+pub held : (bytes : List ℕ) → holds_record bytes ≡ true → (length bytes ≡ 44) × Stands (decode stored_form bytes)
 held bytes t =
-    let p = passes_lem (eqb (length bytes) 50) 255 (0 ∷ []) _ (is_accepted_lem (decision (held_rules bytes)) t) in
-    (eqb-true (length bytes) 50 p.0, p.1)
+    let p = passes_lem (eqb (length bytes) 44) 255 (0 ∷ []) _ (is_accepted_lem (decision (held_rules bytes)) t) in
+    (eqb-true (length bytes) 44 p.0, p.1)
 
 -- ---- the round trips
 
 module _ (r : Record) (h : Held r) where
   -- each value has its field's width
   pub fits : ValuesFit stored_form (values_of r)
-  fits = subst (λ (regs : List ℕ). ValuesFit stored_form (regs ++ (r.sp ∷ kind_of r.base ∷ offset_of r.base ∷ r.place ∷ flags_number r.flags ∷ r.fp ∷ r.page ∷ []))) (whole 8 r.regs h.eight)
-      (h.words 0, (h.words 1, (h.words 2, (h.words 3, (h.words 4, (h.words 5, (h.words 6, (h.words 7, (h.sp, (omega (arith, kind_small r.base), (h.offset, (h.place, (omega (arith, number_small r.flags), (h.fp, (h.page, tt)))))))))))))))
+  fits = subst (λ (regs : List ℕ). ValuesFit stored_form (regs ++ (r.sp ∷ kind_of r.base ∷ offset_of r.base ∷ r.place ∷ flags_number r.flags ∷ []))) (whole 8 r.regs h.eight)
+      (h.words 0, (h.words 1, (h.words 2, (h.words 3, (h.words 4, (h.words 5, (h.words 6, (h.words 7, (h.sp, (omega (arith, kind_small r.base), (h.offset, (h.place, (omega (arith, number_small r.flags), tt)))))))))))))
 
   pub values_kept : decode stored_form (record_bytes r) ≡ values_of r
   values_kept = decode_encode stored_form (values_of r) fits
@@ -130,14 +130,14 @@ module _ (r : Record) (h : Held r) where
   pub record_kept : record_in (record_bytes r) ≡ r
   record_kept = ap record_of values_kept ∙ record_back r h.eight
 
-  pub record_length : length (record_bytes r) ≡ 50
+  pub record_length : length (record_bytes r) ≡ 44
   record_length = length_encode stored_form (values_of r) fits
 
   -- so every record can cross, fit or not
   pub record_holds : holds_record (record_bytes r) ≡ true
   record_holds =
       let stands : Stands (decode stored_form (record_bytes r)) = ap (λ (values : List ℕ). decision (stand_rules values)) values_kept ∙ own_values r h.eight in
-      let accepts : decision (held_rules (record_bytes r)) ≡ accepted = rw (eq-eqb (length (record_bytes r)) 50 record_length) stands in
+      let accepts : decision (held_rules (record_bytes r)) ≡ accepted = rw (eq-eqb (length (record_bytes r)) 44 record_length) stands in
       ap is_accepted accepts
 
 module _ (bytes : List ℕ) (t : Stands (decode stored_form bytes)) where
@@ -145,5 +145,5 @@ module _ (bytes : List ℕ) (t : Stands (decode stored_form bytes)) where
   same_values = values_back (decode stored_form bytes) refl t
 
   -- bytes that hold a record are its bytes
-  pub bytes_kept : length bytes ≡ 50 → ((k : ℕ) → get_or bytes k 0 < 256) → record_bytes (record_in bytes) ≡ bytes
+  pub bytes_kept : length bytes ≡ 44 → ((k : ℕ) → get_or bytes k 0 < 256) → record_bytes (record_in bytes) ≡ bytes
   bytes_kept l h = ap (encode stored_form) same_values ∙ encode_decode stored_form bytes l h

@@ -1,10 +1,10 @@
--- The stored form of a record: 50 bytes, a list of fields from which the positions follow. The short form is of the same list.
+-- The stored form of a record: 44 bytes, a list of fields from which the positions follow. The short form is of the same list.
 use Rattle.std.specs.Prelude.{ℕ, ◌+◌, ◌*◌, ◌^◌, zero, suc, ◌<◌, Bool, true, false, not, cond, List, [], ◌∷◌, ◌++◌, eqb, ltb, leb, length, get_or, take, drop, ◌≡◌}
 use Rattle.bits.specs.Fields.{bit}
 use Rattle.arm.specs.declared.Flags.{Flags}
 use Rattle.endian.specs.LittleEndian.{load_le, bytes_of}
 use Rattle.refusal.specs.Refusals.{Rule, rule, decision, is_accepted}
-use Rattle.state.specs.FitRecord.{sp_fits, fp_fits}
+use Rattle.state.specs.FitRecord.{sp_fits}
 use Rattle.state.specs.Record.{kind_of, offset_of}
 use Rattle.state.specs.declared.Base.{Base}
 use Rattle.state.specs.declared.Base.TheVariants.{Nothing, Ram, External}
@@ -56,15 +56,7 @@ place_in_range kind x = leb x 127
 abbrev pub flags_in_range : Test
 flags_in_range kind x = leb x 15
 
--- as for a run in an image
-abbrev pub fp_in_range : Test
-fp_in_range kind x = fp_fits x
-
--- of the pages that an image can have
-abbrev pub page_in_range : Test
-page_in_range kind x = leb x 4095
-
--- the build paper's stored form: r0 to r7, SP, base kind, offset, place, flags; and 02's FP and page number at the end
+-- the build paper's stored form: r0 to r7, SP, base kind, offset, place, flags
 abbrev pub stored_form : List Field
 stored_form =
     field 4 any_value any_value as_is
@@ -80,13 +72,11 @@ stored_form =
     ∷ field 4 offset_in_range offset_stands unless_none
     ∷ field 2 place_in_range any_value as_is
     ∷ field 1 flags_in_range flags_in_range as_is
-    ∷ field 4 fp_in_range any_value as_is
-    ∷ field 2 page_in_range any_value as_is
     ∷ []
 
 -- in bytes
 abbrev pub form_length : ℕ
-form_length = 50
+form_length = 44
 
 -- ---- values to bytes and back, lowest byte first
 
@@ -144,7 +134,7 @@ flags_of x = record { n = bit x 3; z = bit x 2; c = bit x 1; v = bit x 0 }
 
 abbrev pub values_of : Record → List ℕ
 values_of r =
-    r.regs ++ (r.sp ∷ kind_of r.base ∷ offset_of r.base ∷ r.place ∷ flags_number r.flags ∷ r.fp ∷ r.page ∷ [])
+    r.regs ++ (r.sp ∷ kind_of r.base ∷ offset_of r.base ∷ r.place ∷ flags_number r.flags ∷ [])
 
 abbrev pub record_of : List ℕ → Record
 record_of values = record {
@@ -153,8 +143,6 @@ record_of values = record {
   flags = flags_of (get_or values 12 0);
   place = get_or values 11 0;
   base = base_of (get_or values 9 0) (get_or values 10 0);
-  fp = get_or values 13 0;
-  page = get_or values 14 0;
 }
 
 -- ---- the bytes of a record
@@ -191,5 +179,3 @@ pub record Held (r : Record) : Type 0 where
   pub sp : r.sp < 2 ^ 32
   pub offset : offset_of r.base < 2 ^ 32
   pub place : r.place < 2 ^ 16
-  pub fp : r.fp < 2 ^ 32
-  pub page : r.page < 2 ^ 16

@@ -1,4 +1,4 @@
-// The 50 bytes of a record. A record is fifteen values, and a value goes to the bytes of its field.
+// The 44 bytes of a record. A record is thirteen values, and a value goes to the bytes of its field.
 ghost use Rattle.std.specs.Prelude.{◌≡◌, ◌<◌, ◌^◌, eqb, length, get_or};
 ghost use Rattle.bits.specs.Fields.{bit};
 ghost use Rattle.endian.specs.LittleEndian.{width_of};
@@ -18,12 +18,12 @@ use state::{Base, Record};
 
 // The size of a field.
 fn size_of(i: usize) -> Size
-    requires { i < 15 }
+    requires { i < 13 }
     ensures { width_of result ≡ width_at stored_form i }
 {
     match i {
         9 | 12 => Size::Byte,
-        11 | 14 => Size::Halfword,
+        11 => Size::Halfword,
         _ => Size::Word,
     }
 }
@@ -32,7 +32,7 @@ fn size_of(i: usize) -> Size
 pub fn width_of(i: usize) -> u32
     ensures { result ≡ width_at stored_form i }
 {
-    if i < 15 {
+    if i < 13 {
         endian::width(size_of(i)) as u32
     } else {
         0
@@ -40,13 +40,13 @@ pub fn width_of(i: usize) -> u32
 }
 
 // The values go to the room, one after the other.
-fn write_values(values: [u32; 15], room: &mut [u8])
-    requires { length room.old ≡ 50 }
+fn write_values(values: [u32; 13], room: &mut [u8])
+    requires { length room.old ≡ 44 }
     ensures { room.new ≡ encode stored_form values }
 {
     let mut at: u32 = 0;
     let mut i: usize = 0;
-    while i < 15 {
+    while i < 13 {
         let size = size_of(i);
         let x = values[i];
         endian::store(&mut *room, at, size, x);
@@ -56,13 +56,13 @@ fn write_values(values: [u32; 15], room: &mut [u8])
 }
 
 // The values that the bytes hold.
-pub fn values_in(bytes: &[u8]) -> [u32; 15]
+pub fn values_in(bytes: &[u8]) -> [u32; 13]
     ensures { result ≡ decode stored_form bytes.now }
 {
-    let mut values = [0u32; 15];
+    let mut values = [0u32; 13];
     let mut at: u32 = 0;
     let mut i: usize = 0;
-    while i < 15 {
+    while i < 13 {
         let size = size_of(i);
         let x = endian::load(bytes, at, size);
         values[i] = x;
@@ -136,7 +136,7 @@ fn flags_of(x: u32) -> Flags
     }
 }
 
-pub fn values_of(r: Record) -> [u32; 15]
+pub fn values_of(r: Record) -> [u32; 13]
     ensures { result ≡ values_of r }
 {
     let regs = r.regs;
@@ -145,17 +145,16 @@ pub fn values_of(r: Record) -> [u32; 15]
     let kind = kind_of(base);
     let offset = offset_of(base);
     let place = r.place as u32;
-    let page = r.page as u32;
     let number = flags_number(flags);
     [
         regs[0], regs[1], regs[2], regs[3], regs[4], regs[5], regs[6], regs[7], r.sp, kind, offset,
-        place, number, r.fp, page,
+        place, number,
     ]
 }
 
-// A place has two bytes, and so has a page number.
-fn record_of(values: [u32; 15]) -> Record
-    requires { (get_or values 11 0 < 256 ^ 2) × (get_or values 14 0 < 256 ^ 2) }
+// A place has two bytes.
+fn record_of(values: [u32; 13]) -> Record
+    requires { get_or values 11 0 < 256 ^ 2 }
     ensures { result ≡ record_of values }
 {
     let regs = [
@@ -169,18 +168,16 @@ fn record_of(values: [u32; 15]) -> Record
         flags,
         place: values[11] as u16,
         base,
-        fp: values[13],
-        page: values[14] as u16,
     }
 }
 
 // ---- the bytes of a record
 
-// The record goes to room of 50 bytes, and to no other; whether it does.
+// The record goes to room of 44 bytes, and to no other; whether it does.
 pub fn write(r: Record, room: &mut [u8]) -> bool
-    ensures { (result ≡ eqb (length room.old) 50) × (room.new ≡ room_with r room.old) }
+    ensures { (result ≡ eqb (length room.old) 44) × (room.new ≡ room_with r room.old) }
 {
-    if room.len() != 50 {
+    if room.len() != 44 {
         return false;
     }
     write_values(values_of(r), room);
@@ -195,10 +192,10 @@ pub fn record_in(bytes: &[u8]) -> Record
 }
 
 // The record whose bytes are those of the values; of a value that is past its field, the low bytes.
-pub fn record_with(values: [u32; 15]) -> Record
+pub fn record_with(values: [u32; 13]) -> Record
     ensures { result ≡ record_in (encode stored_form values) }
 {
-    let mut bytes = [0u8; 50];
+    let mut bytes = [0u8; 44];
     write_values(values, &mut bytes);
     record_in(&bytes)
 }
@@ -215,7 +212,7 @@ fn offset_stands(kind: u32, offset: u32) -> bool
 }
 
 // The values are some record's, or where the first field starts that is none's.
-fn values_stand(values: [u32; 15]) -> Verdict
+fn values_stand(values: [u32; 13]) -> Verdict
     ensures { decision_of result ≡ decision (stand_rules values) }
 {
     if values[9] > 2 {
@@ -234,7 +231,7 @@ fn values_stand(values: [u32; 15]) -> Verdict
 pub fn holds_record(bytes: &[u8]) -> Verdict
     ensures { decision_of result ≡ decision (held_rules bytes.now) }
 {
-    if bytes.len() != 50 {
+    if bytes.len() != 44 {
         return Verdict::Refused(Refusal::NoRecord(0));
     }
     values_stand(values_in(bytes))

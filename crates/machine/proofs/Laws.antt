@@ -1,12 +1,12 @@
 -- A turn of the run.
-use Prim.Native.Nat.{ℕ, ◌+◌, ◌-◌, ◌/◌, ◌<◌, ◌≤◌}
-use mathlib.Core.Bool.{Bool, true, false, cond, ◌&&◌, true≢false}
+use Prim.Native.Nat.{ℕ, ◌+◌, ◌-◌, ◌/◌, ◌<◌}
+use mathlib.Core.Bool.{Bool, true, false, cond, true≢false}
 use mathlib.Core.List.{List, [], ◌∷◌}
 use types.Run.{OneOf, miss}
 use mathlib.Core.Path.{◌≡◌, refl, sym, ap, ◌∙◌}
 use lib.Dec.{ltb}
 use lib.ListN.{length, set, length-set}
-use borrow.Author.Tests.{ltb-true, ltb-false}
+use borrow.Author.Tests.{ltb-true}
 use Rattle.refusal.specs.Refusals.{decision_of}
 use Rattle.refusal.specs.declared.Verdict.{Verdict}
 use Rattle.refusal.specs.declared.Verdict.TheVariants.{Accepted}
@@ -32,11 +32,8 @@ use Rattle.stop.specs.Stops as stops
 use Rattle.plain.specs.PlainMachine.{Effect, goes_on, exits, faults, unlisted, Result, onward, plain}
 use Rattle.plain.proofs.Theorems.{turn}
 use Rattle.place.specs.Places.{is_even, stands_in, instruction_at, following}
-use Rattle.instruction.specs.Instructions.{end_at, writes_of, effect_of}
-use Rattle.asking.specs.Asking.{asked_in, asked_at, asks, own_of, own_at}
-use Rattle.asking.specs.declared.Asked.{Asked}
-use Rattle.execution.specs.Executed.{exit_end, Ended, executed_of, effect_ram, not_data, executable, Executes}
-use Rattle.execution.proofs.Laws.{NotData, not_data_lem, past_page}
+use Rattle.instruction.specs.Instructions.{end_at, writes_of, effect_of, instruction_of}
+use Rattle.execution.specs.Executed.{exit_end, Ended, executed_of, effect_ram, executable, Executes}
 use Rattle.execution.specs.declared.End.{End}
 use Rattle.execution.specs.declared.End.TheVariants.{GoesOn, Exits, ExitsBy, Fails, Unlisted}
 use Rattle.execution.specs.declared.Executed.{Executed}
@@ -58,41 +55,18 @@ onward_resumed steps r ram next (exits (by_literal n literal) s after) = refl
 onward_resumed steps r ram next (faults f) = refl
 onward_resumed steps r ram next unlisted = refl
 
--- a turn of the loop, whatever it finds at a record's place
-pub turns : (setting : Setting) (at : Record → Instruction) (total steps : ℕ) (r : Record) (ram left : List ℕ) (i : Instruction) (x : Executed)
-    (end : End) (s : Record) (result : Result) → steps < total → executable r.place i ≡ at r
+-- a turn of the loop
+pub turns : (setting : Setting) (total steps : ℕ) (r : Record) (ram left : List ℕ) (i : Instruction) (x : Executed) (end : End) (s : Record)
+    (result : Result) → steps < total → executable r.place i ≡ instruction_at setting.program r.place
     → Executes r ram (effect_of setting r ram (executable r.place i)) x left → x.end ≡ end
-    → s ≡ applied r x.writes x.place → plain (λ q m. effect_of setting q m (at q)) (total - steps) steps r ram ≡ result
-    → resumed steps (plain (λ q m. effect_of setting q m (at q)) (total - (steps + 1)) (steps + 1)) end s left ≡ result
-turns setting at total steps r ram left i x end s result l f h e w inv =
+    → s ≡ applied r x.writes x.place → plain (instruction_of setting) (total - steps) steps r ram ≡ result
+    → resumed steps (plain (instruction_of setting) (total - (steps + 1)) (steps + 1)) end s left ≡ result
+unfolding instruction_of
+turns setting total steps r ram left i x end s result l f h e w inv =
     let found = rw f at h in
     rw (w ∙ ap (λ (a : Ended). a.rec) found.0, sym e ∙ ap (λ (a : Ended). a.end) found.0, found.1)
-    (onward_resumed steps r ram (plain (λ q m. effect_of setting q m (at q)) (total - (steps + 1)) (steps + 1)) (effect_of setting r ram (at r))
-    ∙ turn (λ q m. effect_of setting q m (at q)) total steps r ram (effect_of setting r ram (at r)) result l refl inv)
-
--- ---- what a page's own run finds
-
-own_data : (in_image : Bool) (ask : Asked) (i : Instruction) (operation : Operation) → own_of in_image ask i ≡ Data operation → i ≡ Data operation
-unfolding own_of
-own_data in_image ask i operation = by (in_image && asks ask)
-  where
-    by : (t : Bool) → cond t instruction.Unlisted i ≡ Data operation → i ≡ Data operation
-    by true e = absurd (true≢false cc)
-    by false e = e
-
--- what it finds, data processing aside, is executed
-pub own_stands : (in_image : Bool) (program : Program) (r : Record) (i : Instruction) → length program.page ≤ 256 → i ≡ own_at in_image program r
-    → NotData i → executable r.place i ≡ own_at in_image program r
-unfolding executable own_of
-own_stands in_image program r i l e d = by (ltb r.place 128) refl
-  where
-    none : (t : Bool) → cond t instruction.Unlisted instruction.Unlisted ≡ instruction.Unlisted
-    none true = refl
-    none false = refl
-
-    by : (t : Bool) → ltb r.place 128 ≡ t → cond t (not_data i) instruction.Unlisted ≡ own_at in_image program r
-    by true h = not_data_lem i d ∙ e
-    by false h = sym (rw (past_page program r.place l (ltb-false r.place 128 h)) (none (in_image && asks (asked_in program.page r.regs instruction.Unlisted))))
+    (onward_resumed steps r ram (plain (instruction_of setting) (total - (steps + 1)) (steps + 1)) (instruction_of setting r ram)
+    ∙ turn (instruction_of setting) total steps r ram (instruction_of setting r ram) result l refl inv)
 
 -- ---- a data-processing instruction, in place
 
@@ -100,7 +74,7 @@ own_stands in_image program r i l e d = by (ltb r.place 128) refl
 pub other_tag : OneOf (1 ∷ 2 ∷ 3 ∷ 4 ∷ 5 ∷ 6 ∷ 7 ∷ []) 0 → ⊥
 other_tag h = miss (1 ∷ 2 ∷ 3 ∷ 4 ∷ 5 ∷ 6 ∷ 7 ∷ []) 0 tt h
 
-data_inside : (program : Program) (place : ℕ) (operation : Operation) → instruction_at program place ≡ Data operation
+pub data_inside : (program : Program) (place : ℕ) (operation : Operation) → instruction_at program place ≡ Data operation
     → place / 2 < length program.page / 4
 unfolding instruction_at
 data_inside program place operation =
@@ -115,14 +89,9 @@ data_inside program place operation =
     by true i e h = ltb-true (place / 2) (length page / 4) e
     by false i e h = absurd (true≢false cc)
 
-pub own_data_inside : (in_image : Bool) (program : Program) (r : Record) (operation : Operation) → own_at in_image program r ≡ Data operation
-    → r.place / 2 < length program.page / 4
-own_data_inside in_image program r operation e =
-    data_inside program r.place operation (own_data in_image (asked_at program r) (instruction_at program r.place) operation e)
-
 -- the record with one register written at most
 abbrev pub registered : Record → Write → Record
-registered r w = record { regs = written_to r.regs w; sp = r.sp; flags = r.flags; place = r.place; base = r.base; fp = r.fp; page = r.page }
+registered r w = record { regs = written_to r.regs w; sp = r.sp; flags = r.flags; place = r.place; base = r.base }
 
 pub registered_length : (r s : Record) (w : Write) → s ≡ registered r w → length r.regs ≡ 8 → length s.regs ≡ 8
 registered_length r s NoRegister e l = rw e l
@@ -130,22 +99,22 @@ registered_length r s (Register k x) e l = rw (e, length-set) l
 
 pub set_written : (r : Record) (w : Write) (k x : ℕ) (after : List ℕ) → w ≡ Register k x → length r.regs ≡ 8
     → after ≡ cond (ltb k 8) (set r.regs k x) r.regs
-    → record { regs = after; sp = r.sp; flags = r.flags; place = r.place; base = r.base; fp = r.fp; page = r.page } ≡ registered r w
+    → record { regs = after; sp = r.sp; flags = r.flags; place = r.place; base = r.base } ≡ registered r w
 set_written r w k x after e l h = rw (e, h, set_eighth r.regs k x l)
 
 pub none_written : (r : Record) (w : Write) → w ≡ NoRegister → r ≡ registered r w
 none_written r w e = rw e
 
-pub data_turn : (setting : Setting) (at : Record → Instruction) (total steps : ℕ) (r s : Record) (ram : List ℕ) (operation : Operation) (c : Computed)
-    (next : ℕ) (result : Result) → steps < total → at r ≡ Data operation
+pub data_turn : (setting : Setting) (total steps : ℕ) (r s : Record) (ram : List ℕ) (operation : Operation) (c : Computed) (next : ℕ)
+    (result : Result) → steps < total → instruction_at setting.program r.place ≡ Data operation
     → c ≡ computed operation r.regs r.sp r.flags → next ≡ following setting.program.page r.place → s ≡ registered r c.register
-    → plain (λ q m. effect_of setting q m (at q)) (total - steps) steps r ram ≡ result
-    → plain (λ q m. effect_of setting q m (at q)) (total - (steps + 1)) (steps + 1)
-    (record { regs = s.regs; sp = s.sp; flags = c.flags; place = next; base = s.base; fp = s.fp; page = s.page }) ram
+    → plain (instruction_of setting) (total - steps) steps r ram ≡ result
+    → plain (instruction_of setting) (total - (steps + 1)) (steps + 1)
+    (record { regs = s.regs; sp = s.sp; flags = c.flags; place = next; base = s.base }) ram
     ≡ result
-unfolding effect_of end_at applied
-data_turn setting at total steps r s ram operation c next result l i e n w h =
-    rw (w, e, n) (turn (λ q m. effect_of setting q m (at q)) total steps r ram
+unfolding instruction_of effect_of end_at applied
+data_turn setting total steps r s ram operation c next result l i e n w h =
+    rw (w, e, n) (turn (instruction_of setting) total steps r ram
     (goes_on (applied r (writes_of operation r) (following setting.program.page r.place)) ram) result l (rw i) h)
 
 -- ---- a call

@@ -1,28 +1,23 @@
 -- A run with a budget, and a step: its definition and its contract.
-use Rattle.std.specs.Prelude.{ℕ, Bool, List, [], ◌∷◌, ◌≡◌}
+use Rattle.std.specs.Prelude.{ℕ, List, [], ◌∷◌, ◌≡◌}
 use Rattle.refusal.specs.Refusals.{decision}
 use Rattle.page.specs.Page.{page_rule}
 use Rattle.platform.specs.Programs.{Setting}
 use Rattle.state.specs.declared.Record.{Record}
 use Rattle.admission.specs.RunRefusals.{run_decision}
 use Rattle.stop.specs.Stops.{reason_of}
-use Rattle.plain.specs.PlainMachine.{Effect, Result}
+use Rattle.plain.specs.PlainMachine.{Result}
 use Rattle.plain.specs.Calls.{call_by}
-use Rattle.instruction.specs.Instructions.{effect_of, instruction_of}
-use Rattle.asking.specs.Asking.{own_at}
+use Rattle.instruction.specs.Instructions.{instruction_of}
 use Rattle.machine.specs.declared.Answer.{Answer}
 
 -- the plain machine's run, or the refusal
 abbrev pub run_of : Setting → ℕ → Record → List ℕ → Result
 run_of setting total r ram = call_by (run_decision setting r ram) (instruction_of setting) total r ram
 
--- what a page does by itself: in an image, not the transfers that it asks for, which are left unlisted; a lone page's are the host's
-abbrev pub own_instruction : Bool → Setting → Record → List ℕ → Effect
-own_instruction in_image setting r ram = effect_of setting r ram (own_at in_image setting.program r)
-
 -- a run of what was admitted: of the refusals, 1 alone is tested
-abbrev pub admitted_run : Bool → Setting → ℕ → Record → List ℕ → Result
-admitted_run in_image setting total r ram = call_by (decision (page_rule setting.program.page ∷ [])) (own_instruction in_image setting) total r ram
+abbrev pub admitted_run : Setting → ℕ → Record → List ℕ → Result
+admitted_run setting total r ram = call_by (decision (page_rule setting.program.page ∷ [])) (instruction_of setting) total r ram
 
 -- an answer and the RAM at exit, by the build paper's numbers and values
 abbrev pub seen : Answer → List ℕ → Result

@@ -2,7 +2,8 @@
 ghost use Rattle.std.specs.Prelude.{◌≡◌, ◌≤◌, length};
 ghost use Rattle.platform.specs.Programs.{program_of, setting_of};
 ghost use Rattle.plain.specs.PlainMachine.{plain};
-ghost use Rattle.machine.specs.Runs.{own_instruction, admitted_run, seen, Gives};
+ghost use Rattle.instruction.specs.Instructions.{instruction_of};
+ghost use Rattle.machine.specs.Runs.{admitted_run, seen, Gives};
 
 use execution::End;
 use isa::Instruction;
@@ -36,15 +37,14 @@ fn run_on(
     start: Record,
     ram: &mut [u8],
     budget: u32,
-    in_image: bool,
 ) -> Answer
     requires { length page.now ≤ 256 }
-    ensures { seen result ram.new ≡ plain (own_instruction in_image (setting_of (program_of page.now platform) external.now window)) budget 0 start ram.old }
+    ensures { seen result ram.new ≡ plain (instruction_of (setting_of (program_of page.now platform) external.now window)) budget 0 start ram.old }
 {
     let mut r = start;
     let mut steps: u32 = 0;
     while steps < budget {
-        let i = asking::own_instruction(page, platform, r.place, &r.regs, in_image);
+        let i = place::instruction_at(page, platform, r.place);
         if let Instruction::Data(operation) = i {
             let f = r.flags;
             let next = place::next_place(page, r.place) as u16;
@@ -74,7 +74,7 @@ fn run_on(
     stopped(Stop::Budget, steps, r)
 }
 
-// A run of what was admitted, by this table or another: the page's length alone is tested again. In an image it stops at a transfer.
+// A run of what was admitted, by this table or another: the page's length alone is tested again.
 pub fn run_admitted(
     page: &[u8],
     platform: Platform,
@@ -83,14 +83,13 @@ pub fn run_admitted(
     window: Window,
     r: Record,
     budget: u32,
-    in_image: bool,
 ) -> Answer
-    ensures { seen result ram.new ≡ admitted_run in_image (setting_of (program_of page.now platform) external.now window) budget r ram.old }
+    ensures { seen result ram.new ≡ admitted_run (setting_of (program_of page.now platform) external.now window) budget r ram.old }
 {
     if !page::fits(page) {
         return stopped(Stop::Refused(Refusal::PageLength), 0, r);
     }
-    run_on(page, platform, external, window, r, ram, budget, in_image)
+    run_on(page, platform, external, window, r, ram, budget)
 }
 
 // A run with the build paper's budget.
@@ -112,7 +111,7 @@ pub fn run(
             steps: 0,
             after: r,
         },
-        Verdict::Accepted => run_admitted(page, platform, ram, external, window, r, budget, false),
+        Verdict::Accepted => run_admitted(page, platform, ram, external, window, r, budget),
     }
 }
 

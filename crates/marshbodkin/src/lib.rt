@@ -1,5 +1,5 @@
 // The calls that a host links, in C's way: one that can be refused answers 0 or a refusal's number, and the rest is given in lent
-// numbers and bytes. A record crosses as its 50 bytes, fit or not. Bit n of `never_return` says that direct syscall n never returns;
+// numbers and bytes. A record crosses as its 44 bytes, fit or not. Bit n of `never_return` says that direct syscall n never returns;
 // `profile` is 0, full, or 1, small; any other is refused. A window of RAM is its start and its end.
 ghost use Rattle.std.specs.Prelude.{◌≡◌, length};
 ghost use Rattle.window.specs.Windows.{window_of};
@@ -14,7 +14,7 @@ ghost use Rattle.forming.specs.Crossing.{fresh_decision, form_decision, form_roo
 ghost use Rattle.packing.specs.Packing.{pack_decision, pack, room_after_pack, unpack_decision, room_after_unpack};
 ghost use Rattle.image.specs.Images.{image_of};
 ghost use Rattle.image.specs.Index.{build_decision, index_built, replace_decision, after_replace};
-ghost use Rattle.image_instruction.specs.ImageInstructions.{image_setting_of};
+ghost use Rattle.image_runs.specs.ImageRuns.{image_setting_of};
 ghost use Rattle.crossing.specs.Exits.{decoded_exit};
 ghost use Rattle.crossing.specs.Numbers.{code_of, position_of, largest_kind, largest_number};
 ghost use Rattle.hosting.specs.Crossed.{answered};
@@ -273,13 +273,14 @@ pub extern "C" fn mb_raw_image_replace(
     crossing::code_of(verdict)
 }
 
-// A run in an image; the page is the record's.
+// A run in a page of an image.
 #[unsafe(no_mangle)]
 pub extern "C" fn mb_raw_image_run(
     image: &[u8],
     index: &[u8],
     never_return: u64,
     profile: u32,
+    number: u32,
     ram: &mut [u8],
     external: &[u8],
     window_start: u32,
@@ -293,7 +294,7 @@ pub extern "C" fn mb_raw_image_run(
     steps: &mut u32,
 ) -> u32
     ensures { answered result kind.new value.new literal.new position.new steps.new bytes.new ram.new
-        ≡ host_image_run (image_setting_of (image_of image.now index.now (platform_of never_return profile)) external.now (window_of window_start window_end)) budget bytes.old ram.old }
+        ≡ host_image_run (image_setting_of (image_of image.now index.now (platform_of never_return profile)) external.now (window_of window_start window_end)) number budget bytes.old ram.old }
 {
     let platform = Platform {
         never_return,
@@ -304,7 +305,7 @@ pub extern "C" fn mb_raw_image_run(
         end: window_end,
     };
     let hosted = hosting::run_in_image(
-        image, index, platform, ram, external, window, bytes, budget,
+        image, index, platform, number, ram, external, window, bytes, budget,
     );
     let stop = hosted.stop;
     *steps = hosted.steps;
@@ -318,6 +319,7 @@ pub extern "C" fn mb_raw_image_step(
     index: &[u8],
     never_return: u64,
     profile: u32,
+    number: u32,
     ram: &mut [u8],
     external: &[u8],
     window_start: u32,
@@ -330,7 +332,7 @@ pub extern "C" fn mb_raw_image_step(
     steps: &mut u32,
 ) -> u32
     ensures { answered result kind.new value.new literal.new position.new steps.new bytes.new ram.new
-        ≡ host_image_run (image_setting_of (image_of image.now index.now (platform_of never_return profile)) external.now (window_of window_start window_end)) 1 bytes.old ram.old }
+        ≡ host_image_run (image_setting_of (image_of image.now index.now (platform_of never_return profile)) external.now (window_of window_start window_end)) number 1 bytes.old ram.old }
 {
     let budget = 1;
     mb_raw_image_run(
@@ -338,6 +340,7 @@ pub extern "C" fn mb_raw_image_step(
         index,
         never_return,
         profile,
+        number,
         ram,
         external,
         window_start,
@@ -380,7 +383,7 @@ pub extern "C" fn mb_raw_exit(
 
 const MAJOR: u32 = 0;
 
-const MINOR: u32 = 9;
+const MINOR: u32 = 8;
 
 const PATCH: u32 = 0;
 

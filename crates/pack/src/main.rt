@@ -4,7 +4,7 @@ use streams::Input;
 fn main() {
     let program = b"pack";
     // One byte more than a stored record has, so that a longer input is refused.
-    let mut input = [0u8; 51];
+    let mut input = [0u8; 45];
     let Input::Bytes(n) = streams::read_input(program, &mut input) else {
         return;
     };

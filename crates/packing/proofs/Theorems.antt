@@ -40,7 +40,7 @@ module _ (stored : List ℕ) (h : (k : ℕ) → get_or stored k 0 < 256) (t : de
   pub short_reads : (decision (read_rules (short_form (record_in stored))) ≡ accepted) × (record_short (short_form (record_in stored)) ≡ record_in stored)
   short_reads = rw short_is (Short.values_kept values fits in_range)
 
-  pub short_length : (14 ≤ length (short_form (record_in stored))) × (length (short_form (record_in stored)) ≤ 54)
+  pub short_length : (12 ≤ length (short_form (record_in stored))) × (length (short_form (record_in stored)) ≤ 49)
   short_length = rw short_is (Short.lengths values fits in_range)
 
   pub stored_back : record_bytes (record_in stored) ≡ stored
@@ -60,7 +60,7 @@ module _ (packed : List ℕ) (h : (k : ℕ) → get_or packed k 0 < 256) (t : de
       ap (λ (vs : List ℕ). decode stored_form (encode stored_form vs)) (Short.same_values packed h t)
       ∙ Fields.decode_encode stored_form short_values (Short.bytes_kept packed h t).0
 
-  length_written : length written_lem ≡ 50
+  length_written : length written_lem ≡ 44
   length_written =
       ap (λ (vs : List ℕ). length (encode stored_form vs)) (Short.same_values packed h t)
       ∙ Fields.length_encode stored_form short_values (Short.bytes_kept packed h t).0
@@ -71,7 +71,7 @@ module _ (packed : List ℕ) (h : (k : ℕ) → get_or packed k 0 < 256) (t : de
       let tested : InRange (decode stored_form written_lem) = ap (λ (vs : List ℕ). decision (range_rules vs)) values_written ∙ (Short.bytes_kept packed h t).1 in
       (sym (by_rest (length written_lem) (range_rules (decode stored_form written_lem)) length_written) ∙ tested, ap record_of values_written)
 
-  pub packed_length : (14 ≤ length packed) × (length packed ≤ 54)
+  pub packed_length : (12 ≤ length packed) × (length packed ≤ 49)
   packed_length =
       let k = Short.bytes_kept packed h t in
       rw k.2 at (Short.lengths short_values k.0 k.1)
@@ -90,9 +90,9 @@ module _ (stored room : List ℕ) (t : pack_decision stored room ≡ accepted) w
 pub with_room : (stored room : List ℕ) → decision (load_rules stored) ≡ accepted → length (short_form (record_in stored)) ≤ length room → pack_decision stored room ≡ accepted
 with_room stored room t l = then_room (load_rules stored) (short_form (record_in stored)) room accepted (sym t) ∙ rw (le-ltb (length room) (length (short_form (record_in stored))) l)
 
--- in 54 bytes there always is
-pub room_of_54 : (stored room : List ℕ) → ((k : ℕ) → get_or stored k 0 < 256) → 54 ≤ length room → pack_decision stored room ≡ decision (load_rules stored)
-room_of_54 stored room h l = by-decision (decision (load_rules stored)) refl
+-- in 49 bytes there always is
+pub room_of_49 : (stored room : List ℕ) → ((k : ℕ) → get_or stored k 0 < 256) → 49 ≤ length room → pack_decision stored room ≡ decision (load_rules stored)
+room_of_49 stored room h l = by-decision (decision (load_rules stored)) refl
   where
     by-decision : (d : Decision) → decision (load_rules stored) ≡ d → pack_decision stored room ≡ decision (load_rules stored)
     by-decision accepted e = with_room stored room e (omega (arith, (short_length stored h e).1)) ∙ sym e
@@ -100,13 +100,13 @@ room_of_54 stored room h l = by-decision (decision (load_rules stored)) refl
 
 module _ (packed room : List ℕ) (t : unpack_decision packed room ≡ accepted) where
   pub reads : decision (read_rules packed) ≡ accepted
-  reads = (passes_lem (eqb (length room) 50) 6 [] _ t).1
+  reads = (passes_lem (eqb (length room) 44) 6 [] _ t).1
 
   pub bytes_unpacked : room_after_unpack packed room ≡ record_bytes (record_short packed)
   bytes_unpacked = rw t
 
--- 50 bytes to the short form and back, to any room of 50 bytes
-pub out_and_back : (stored room back : List ℕ) → ((k : ℕ) → get_or stored k 0 < 256) → pack_decision stored room ≡ accepted → length back ≡ 50
+-- 44 bytes to the short form and back, to any room of 44 bytes
+pub out_and_back : (stored room back : List ℕ) → ((k : ℕ) → get_or stored k 0 < 256) → pack_decision stored room ≡ accepted → length back ≡ 44
     → (unpack_decision (short_form (record_in stored)) back ≡ accepted) × (room_after_unpack (short_form (record_in stored)) back ≡ stored)
 out_and_back stored room back h t l =
     let loaded = loads stored room t in
@@ -115,7 +115,7 @@ out_and_back stored room back h t l =
     let e : unpack_decision form back ≡ accepted = sym (by_rest (length back) (read_rules form) l) ∙ r.0 in
     (e, bytes_unpacked form back e ∙ ap record_bytes r.1 ∙ stored_back stored h loaded)
 
--- the short form to 50 bytes and back, to any room that is long enough
+-- the short form to 44 bytes and back, to any room that is long enough
 pub in_and_out : (packed room back : List ℕ) → ((k : ℕ) → get_or packed k 0 < 256) → unpack_decision packed room ≡ accepted → length packed ≤ length back
     → (pack_decision (room_after_unpack packed room) back ≡ accepted) × (short_form (record_in (room_after_unpack packed room)) ≡ packed)
 in_and_out packed room back h t l =

@@ -1,4 +1,4 @@
--- From the 50-byte form to the short one, and back.
+-- From the 44-byte form to the short one, and back.
 use Rattle.std.specs.Prelude.{ℕ, List, [], ◌∷◌, ◌++◌, length}
 use Rattle.refusal.specs.Refusals.{Decision, decision, when_accepted}
 use Rattle.layout.specs.StoredForm.{record_bytes, record_in}
@@ -6,7 +6,7 @@ use Rattle.form.specs.Storing.{length_rule, load_rules}
 use Rattle.short_layout.specs.ShortForm.{short_form}
 use Rattle.short_form.specs.ShortStoring.{room_rule, PackAnswer, pack_answer, room_packed, read_rules, record_short}
 
--- 6 and 7 of the 50-byte form, then 10
+-- 6 and 7 of the 44-byte form, then 10
 abbrev pub pack_decision : List ℕ → List ℕ → Decision
 pack_decision stored room = decision (load_rules stored ++ (room_rule (short_form (record_in stored)) (length room) ∷ []))
 

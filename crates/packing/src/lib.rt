@@ -1,4 +1,4 @@
-// From the 50-byte form of a record to the short one, and back.
+// From the 44-byte form of a record to the short one, and back.
 ghost use Rattle.std.specs.Prelude.{◌≡◌};
 ghost use Rattle.refusal.specs.Refusals.{decision_of};
 ghost use Rattle.short_form.specs.ShortStoring.{seen_packed};
@@ -23,11 +23,11 @@ pub fn pack(stored: &[u8], room: &mut [u8]) -> Packed
     }
 }
 
-// The 50-byte form of a record in the short one goes to the room.
+// The 44-byte form of a record in the short one goes to the room.
 pub fn unpack(packed: &[u8], room: &mut [u8]) -> Verdict
     ensures { (decision_of result ≡ unpack_decision packed.now room.old) × (room.new ≡ room_after_unpack packed.now room.old) }
 {
-    if room.len() != 50 {
+    if room.len() != 44 {
         return Verdict::Refused(Refusal::FormLength);
     }
     let back = short_form::read(packed);

@@ -7,7 +7,7 @@ use native.Mathlib.Omega.{arith}
 use lib.ListN.{length}
 use Rattle.refusal.specs.Refusals.{Decision, accepted, refused, Rule, rule, decision, is_accepted, when_accepted, refusal_values}
 use Rattle.refusal.specs.declared.Refusal.{Refusal}
-use Rattle.refusal.specs.declared.Refusal.TheVariants.{PageLength, RamLength, ExternalLength, UnfitPlace, FormLength, FormRange, NoSuchBundle, NotGrouped, RoomTooSmall, ImageLength, NoSuchPage, IndexLength, UnknownProfile, WindowBounds, WrongIndex, SpBounds, SpAlignment, RamOffset, ExternalOffset, FpUnfit, NoRecord}
+use Rattle.refusal.specs.declared.Refusal.TheVariants.{PageLength, RamLength, ExternalLength, UnfitPlace, FormLength, FormRange, NoSuchBundle, NotGrouped, RoomTooSmall, ImageLength, NoSuchPage, IndexLength, UnknownProfile, WindowBounds, WrongIndex, SpBounds, SpAlignment, RamOffset, ExternalOffset, NoRecord}
 
 -- what is accepted has passed every line
 pub passes_lem : (t : Bool) (n : ℕ) (values : List ℕ) (rest : Decision) → cond (not t) (refused n values) rest ≡ accepted
@@ -78,5 +78,4 @@ few_values SpBounds = omega arith
 few_values SpAlignment = omega arith
 few_values RamOffset = omega arith
 few_values ExternalOffset = omega arith
-few_values FpUnfit = omega arith
 few_values (NoRecord position) = omega arith

@@ -1,7 +1,7 @@
 -- Refusals: their numbers and values, and the first one that applies to a call.
 use Rattle.std.specs.Prelude.{ℕ, Bool, true, false, cond, List, [], ◌∷◌}
 use Rattle.refusal.specs.declared.Refusal.{Refusal}
-use Rattle.refusal.specs.declared.Refusal.TheVariants.{PageLength, RamLength, ExternalLength, UnfitPlace, FormLength, FormRange, NoSuchBundle, NotGrouped, RoomTooSmall, ImageLength, NoSuchPage, IndexLength, UnknownProfile, WindowBounds, WrongIndex, SpBounds, SpAlignment, RamOffset, ExternalOffset, FpUnfit, NoRecord}
+use Rattle.refusal.specs.declared.Refusal.TheVariants.{PageLength, RamLength, ExternalLength, UnfitPlace, FormLength, FormRange, NoSuchBundle, NotGrouped, RoomTooSmall, ImageLength, NoSuchPage, IndexLength, UnknownProfile, WindowBounds, WrongIndex, SpBounds, SpAlignment, RamOffset, ExternalOffset, NoRecord}
 use Rattle.refusal.specs.declared.Carried.{Carried}
 use Rattle.refusal.specs.declared.Carried.TheVariants.{Nothing, Position}
 use Rattle.refusal.specs.declared.Verdict.{Verdict}
@@ -53,7 +53,6 @@ refusal_number SpBounds = 41
 refusal_number SpAlignment = 42
 refusal_number RamOffset = 43
 refusal_number ExternalOffset = 44
-refusal_number FpUnfit = 45
 refusal_number (NoRecord position) = 255
 
 abbrev pub refusal_values : Refusal → List ℕ
@@ -76,7 +75,6 @@ refusal_values SpBounds = []
 refusal_values SpAlignment = []
 refusal_values RamOffset = []
 refusal_values ExternalOffset = []
-refusal_values FpUnfit = []
 refusal_values (NoRecord position) = position ∷ []
 
 abbrev pub carried_values : Carried → List ℕ

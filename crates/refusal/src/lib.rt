@@ -25,7 +25,6 @@ pub enum Refusal {
     SpAlignment,
     RamOffset,
     ExternalOffset,
-    FpUnfit,
     // where the field that is no record's starts, 0 where the bytes have another length
     NoRecord(u32),
 }
@@ -69,7 +68,6 @@ pub fn number(r: Refusal) -> u8
         Refusal::SpAlignment => 42,
         Refusal::RamOffset => 43,
         Refusal::ExternalOffset => 44,
-        Refusal::FpUnfit => 45,
         Refusal::NoRecord(_) => 255,
     }
 }
@@ -97,7 +95,6 @@ pub fn carries(r: Refusal) -> Carried
         Refusal::SpAlignment => Carried::Nothing,
         Refusal::RamOffset => Carried::Nothing,
         Refusal::ExternalOffset => Carried::Nothing,
-        Refusal::FpUnfit => Carried::Nothing,
         Refusal::NoRecord(position) => Carried::Position(position),
     }
 }

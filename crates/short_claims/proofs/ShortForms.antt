@@ -24,7 +24,7 @@ use Rattle.short_claims.specs.ShortForms.{PackCall, UnpackCall, WriteCall, ReadC
 
 -- ---- a form in its room
 
-leaves : (form room left packed_lem : List ℕ) → left ≡ form ++ drop (length form) room → packed_lem ≡ form → 14 ≤ length form → length form ≤ 54 → length form ≤ length room
+leaves : (form room left packed_lem : List ℕ) → left ≡ form ++ drop (length form) room → packed_lem ≡ form → 12 ≤ length form → length form ≤ 49 → length form ≤ length room
     → WrittenTo packed_lem room left
 leaves form room left packed_lem e f low high fits = rw f (record { at_least = low; at_most = high; inside = fits; whole = e })
 
@@ -70,7 +70,7 @@ module _ (p : PackCall) (t : pack_accepts p) where
       let rules = all_accepted (load_rules (stored p)) (room_rule form (length (pack_room p)) ∷ []) packed_lem in
       leaves form (pack_room p) (pack_left p) (packed_by p) (left_is form (pack_room p) (pack_left p) _ _ (packs p).0 (packs p).1 t) packed_form n.0 n.1 (room_fits form (pack_room p) rules.1)
 
-out_and_back : (p : PackCall) (u : UnpackCall) → pack_accepts p → short u ≡ packed_by p → length (unpack_room u) ≡ 50 → unpack_accepts u × (unpack_left u ≡ stored p)
+out_and_back : (p : PackCall) (u : UnpackCall) → pack_accepts p → short u ≡ packed_by p → length (unpack_room u) ≡ 44 → unpack_accepts u × (unpack_left u ≡ stored p)
 out_and_back p u t e l =
     let back = Packing.out_and_back (stored p) (pack_room p) (unpack_room u) p.bytes (packed_lem p t) l in
     let same = e ∙ packed_form p t in (
@@ -124,10 +124,10 @@ read_writes r w t e l =
 
 -- ---- all of them
 
-unpack_length : (u : UnpackCall) → unpack_accepts u → (14 ≤ length (short u)) × (length (short u) ≤ 54)
+unpack_length : (u : UnpackCall) → unpack_accepts u → (12 ≤ length (short u)) × (length (short u) ≤ 49)
 unpack_length u t = Packing.packed_length (short u) u.bytes (Packing.reads (short u) (unpack_room u) (sym (unpacks u).0 ∙ t))
 
-read_length : (r : ReadCall) → (read_answer r).decision ≡ accepted → (14 ≤ length (read_from r)) × (length (read_from r) ≤ 54)
+read_length : (r : ReadCall) → (read_answer r).decision ≡ accepted → (12 ≤ length (read_from r)) × (length (read_from r) ≤ 49)
 read_length r t = Packing.packed_length (read_from r) r.bytes (sym (ap (λ (a : LoadAnswer). a.decision) (reads r)) ∙ t)
 
 pub short_forms : ShortForms

@@ -7,7 +7,7 @@ use Rattle.state.specs.declared.Record.{Record}
 use Rattle.short_layout.specs.ShortForm.{short_form}
 use Rattle.short_form.specs.ShortStoring.{write_decision, read_record}
 
--- every register in five groups, SP in two, an offset in four, FP in three, a page in two
+-- every register in five groups, SP in two, an offset in four
 abbrev pub long_record : Record
 long_record = record {
   regs = replicate 8 0xFFFFFFFF;
@@ -15,14 +15,12 @@ long_record = record {
   flags = record { n = true; z = true; c = true; v = true };
   place = 127;
   base = External 0xFFFFFF;
-  fp = 0x17FE0;
-  page = 4095;
 }
 
 pub record Examples : Type 0 where
-  pub shortest : short_form fresh_record ≡ replicate 14 0
-  pub shortest_written : write_decision fresh_record (replicate 14 0) ≡ accepted
-  pub shortest_read : read_record (replicate 14 0) ≡ record { decision = accepted; loaded = fresh_record }
-  pub longest : length (short_form long_record) ≡ 54
-  pub longest_written : write_decision long_record (replicate 54 0) ≡ accepted
+  pub shortest : short_form fresh_record ≡ replicate 12 0
+  pub shortest_written : write_decision fresh_record (replicate 12 0) ≡ accepted
+  pub shortest_read : read_record (replicate 12 0) ≡ record { decision = accepted; loaded = fresh_record }
+  pub longest : length (short_form long_record) ≡ 49
+  pub longest_written : write_decision long_record (replicate 49 0) ≡ accepted
   pub longest_read : read_record (short_form long_record) ≡ record { decision = accepted; loaded = long_record }

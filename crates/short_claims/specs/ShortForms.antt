@@ -1,4 +1,4 @@
--- The short form and the 50-byte form: what is claimed of calls, each known by its contract alone.
+-- The short form and the 44-byte form: what is claimed of calls, each known by its contract alone.
 use Rattle.std.specs.Prelude.{ℕ, ◌<◌, ◌≤◌, List, ◌++◌, ◌≡◌, length, get_or, take, drop}
 use contract.Lifetimes.{Lfts}
 use borrow.Fn.World.{ArgsD, ResD}
@@ -118,18 +118,18 @@ read_answer c = seen_read_back c.answer
 
 -- ---- the claims
 
--- what is written of a form: 14 to 54 bytes at the start of the room; the others stay
+-- what is written of a form: 12 to 49 bytes at the start of the room; the others stay
 pub record WrittenTo (form : List ℕ) (room left : List ℕ) : Type 0 where
-  pub at_least : 14 ≤ length form
-  pub at_most : length form ≤ 54
+  pub at_least : 12 ≤ length form
+  pub at_most : length form ≤ 49
   pub inside : length form ≤ length room
   pub whole : left ≡ form ++ drop (length form) room
 
 pub record ShortForms : Type 0 where
-  -- from 50 bytes to the short form and back, in any room of 50 bytes: the same bytes
-  pub out_and_back : (p : PackCall) (u : UnpackCall) → pack_accepts p → short u ≡ packed_by p → length (unpack_room u) ≡ 50
+  -- from 44 bytes to the short form and back, in any room of 44 bytes: the same bytes
+  pub out_and_back : (p : PackCall) (u : UnpackCall) → pack_accepts p → short u ≡ packed_by p → length (unpack_room u) ≡ 44
       → unpack_accepts u × (unpack_left u ≡ stored p)
-  -- from the short form to 50 bytes and back, in any room that is long enough: the same bytes
+  -- from the short form to 44 bytes and back, in any room that is long enough: the same bytes
   pub in_and_out : (u : UnpackCall) (p : PackCall) → unpack_accepts u → stored p ≡ unpack_left u → length (short u) ≤ length (pack_room p)
       → pack_accepts p × (packed_by p ≡ short u)
   -- and so do the programs, by what they write
@@ -144,6 +144,6 @@ pub record ShortForms : Type 0 where
   -- where the form stands, and how long it is
   pub pack_leaves : (p : PackCall) → pack_accepts p → WrittenTo (packed_by p) (pack_room p) (pack_left p)
   pub write_leaves : (w : WriteCall) → write_accepts w → WrittenTo (written_by w) (write_room w) (write_left w)
-  -- what is accepted has 14 to 54 bytes
-  pub unpack_length : (u : UnpackCall) → unpack_accepts u → (14 ≤ length (short u)) × (length (short u) ≤ 54)
-  pub read_length : (r : ReadCall) → (read_answer r).decision ≡ accepted → (14 ≤ length (read_from r)) × (length (read_from r) ≤ 54)
+  -- what is accepted has 12 to 49 bytes
+  pub unpack_length : (u : UnpackCall) → unpack_accepts u → (12 ≤ length (short u)) × (length (short u) ≤ 49)
+  pub read_length : (r : ReadCall) → (read_answer r).decision ≡ accepted → (12 ≤ length (read_from r)) × (length (read_from r) ≤ 49)

@@ -1,15 +1,12 @@
 -- How long a short form is.
-use Prim.Native.Nat.{ℕ, zero, suc, ◌+◌, ◌%◌, ◌^◌, ◌<◌, ◌≤◌}
+use Prim.Native.Nat.{ℕ, zero, suc, ◌+◌, ◌^◌, ◌<◌, ◌≤◌}
 use mathlib.Core.Path.{◌≡◌, sym, ap, ◌∙◌}
-use mathlib.Core.Bool.{Bool, true, false, not, ◌&&◌, cond, true≢false}
+use mathlib.Core.Bool.{Bool, true, false, not, cond, true≢false}
 use mathlib.Core.List.{List, []}
-use mathlib.Core.Logic.{⊎_elim}
 use native.Mathlib.Omega.{arith}
-use lib.Dec.{eqb, leb}
+use lib.Dec.{eqb}
 use lib.ListN.{length, get_or, length-append}
 use borrow.Author.Tests.{eqb-true, leb-true, ltb-true}
-use Rattle.laws.proofs.Tests.{both, either}
-use Rattle.state.specs.FitRecord.{fp_fits}
 use Rattle.layout.specs.StoredForm.{stored_form, width_at, offset_in_range}
 use Rattle.layout.proofs.Fields.{whole}
 use Rattle.form.proofs.Ranges.{InRange}
@@ -32,7 +29,7 @@ at_most_five : (n : ℕ) → length (leb128 n) ≤ 5
 unfolding leb128
 at_most_five n = length_most 5 n
 
--- ---- fifteen numbers
+-- ---- thirteen numbers
 
 -- the offset's bytes, which may be none
 abbrev offset_bytes : ℕ → ℕ → List ℕ
@@ -42,16 +39,16 @@ offset_at_most : (t : Bool) (n : ℕ) → n < 2 ^ 24 → length (cond t (leb128 
 offset_at_most true n h = at_most 3 n (omega arith)
 offset_at_most false n h = omega arith
 
-module _ (ns : List ℕ) (l : length ns ≡ 15) where
+module _ (ns : List ℕ) (l : length ns ≡ 13) where
   total : length (short_bytes ns)
       ≡ length (leb128 (get_or ns 0 0)) + length (leb128 (get_or ns 1 0)) + length (leb128 (get_or ns 2 0)) + length (leb128 (get_or ns 3 0))
       + length (leb128 (get_or ns 4 0)) + length (leb128 (get_or ns 5 0)) + length (leb128 (get_or ns 6 0)) + length (leb128 (get_or ns 7 0))
       + length (leb128 (get_or ns 8 0)) + length (leb128 (get_or ns 9 0)) + length (offset_bytes (get_or ns 9 0) (get_or ns 10 0))
-      + length (leb128 (get_or ns 11 0)) + length (leb128 (get_or ns 12 0)) + length (leb128 (get_or ns 13 0)) + length (leb128 (get_or ns 14 0))
+      + length (leb128 (get_or ns 11 0)) + length (leb128 (get_or ns 12 0))
   unfolding short_bytes bytes_for field_bytes
-  total = ap (λ (xs : List ℕ). length (short_bytes xs)) (sym (whole 15 ns l)) ∙ simp length-append (omega arith)
+  total = ap (λ (xs : List ℕ). length (short_bytes xs)) (sym (whole 13 ns l)) ∙ simp length-append (omega arith)
 
-  pub least : 14 ≤ length (short_bytes ns)
+  pub least : 12 ≤ length (short_bytes ns)
   least = rw total (omega (
     arith,
     at_least_one (get_or ns 0 0),
@@ -66,13 +63,10 @@ module _ (ns : List ℕ) (l : length ns ≡ 15) where
     at_least_one (get_or ns 9 0),
     at_least_one (get_or ns 11 0),
     at_least_one (get_or ns 12 0),
-    at_least_one (get_or ns 13 0),
-    at_least_one (get_or ns 14 0),
   ))
 
-  pub most : get_or ns 8 0 ≤ 8192 → get_or ns 9 0 ≤ 2 → get_or ns 10 0 < 2 ^ 24 → get_or ns 11 0 ≤ 127 → get_or ns 12 0 ≤ 15 → get_or ns 13 0 < 0x18000 → get_or ns 14 0 ≤ 4095
-      → length (short_bytes ns) ≤ 54
-  most sp kind offset place flags fp page = rw total (omega (
+  pub most : get_or ns 8 0 ≤ 8192 → get_or ns 9 0 ≤ 2 → get_or ns 10 0 < 2 ^ 24 → get_or ns 11 0 ≤ 127 → get_or ns 12 0 ≤ 15 → length (short_bytes ns) ≤ 49
+  most sp kind offset place flags = rw total (omega (
     arith,
     at_most_five (get_or ns 0 0),
     at_most_five (get_or ns 1 0),
@@ -87,8 +81,6 @@ module _ (ns : List ℕ) (l : length ns ≡ 15) where
     offset_at_most (not (eqb (get_or ns 9 0) 0)) (get_or ns 10 0) offset,
     at_most 0 (get_or ns 11 0) (omega arith),
     at_most 0 (get_or ns 12 0) (omega arith),
-    at_most 2 (get_or ns 13 0) (omega arith),
-    at_most 1 (get_or ns 14 0) (omega arith),
   ))
 
 -- ---- the numbers of a record in range
@@ -99,27 +91,9 @@ offset_below (suc zero) offset t = omega (arith, ltb-true offset (2 ^ 20) t)
 offset_below (suc (suc zero)) offset t = ltb-true offset (2 ^ 24) t
 offset_below (suc (suc (suc kind))) offset t = absurd (true≢false (sym t))
 
-fp_below : (fp : ℕ) → fp_fits fp ≡ true → fp < 0x18000
-fp_below fp t = ⊎_elim none frame (either (eqb fp 0) (aligned && (above && below)) t)
-  where
-    aligned : Bool
-    aligned = eqb (fp % 4) 0
-
-    above : Bool
-    above = leb 0x10000 fp
-
-    below : Bool
-    below = leb (fp + 32) 0x18000
-
-    none : eqb fp 0 ≡ true → fp < 0x18000
-    none e = omega (arith, eqb-true fp 0 e)
-
-    frame : (aligned && (above && below)) ≡ true → fp < 0x18000
-    frame e = omega (arith, leb-true (fp + 32) 0x18000 (both above below (both aligned (above && below) e).1).1)
-
--- 14 to 54 bytes
-pub length_between : (values : List ℕ) → length values ≡ 15 → InRange values → ((i : ℕ) → i < 15 → get_or values i 0 < 256 ^ width_at stored_form i)
-    → (14 ≤ length (short_bytes (numbers_for values))) × (length (short_bytes (numbers_for values)) ≤ 54)
+-- 12 to 49 bytes
+pub length_between : (values : List ℕ) → length values ≡ 13 → InRange values → ((i : ℕ) → i < 13 → get_or values i 0 < 256 ^ width_at stored_form i)
+    → (12 ≤ length (short_bytes (numbers_for values))) × (length (short_bytes (numbers_for values)) ≤ 49)
 length_between values l t fit =
     let ns = numbers_for values in
     let m = numbers_length values l t fit in
@@ -130,7 +104,5 @@ length_between values l t fit =
           (rw (same 9 (omega arith)) (leb-true _ 2 (tested 9 (omega arith))))
           (rw (same 10 (omega arith)) (offset_below (get_or values 9 0) (get_or values 10 0) (tested 10 (omega arith))))
           (rw (same 11 (omega arith)) (leb-true _ 127 (tested 11 (omega arith))))
-          (rw (same 12 (omega arith)) (leb-true _ 15 (tested 12 (omega arith))))
-          (rw (same 13 (omega arith)) (fp_below (get_or values 13 0) (tested 13 (omega arith))))
-          (rw (same 14 (omega arith)) (leb-true _ 4095 (tested 14 (omega arith)))),
+          (rw (same 12 (omega arith)) (leb-true _ 15 (tested 12 (omega arith)))),
     )

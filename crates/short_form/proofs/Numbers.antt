@@ -1,4 +1,4 @@
--- The numbers of fifteen values, and the values of fifteen numbers.
+-- The numbers of thirteen values, and the values of thirteen numbers.
 use Prim.Native.Nat.{ℕ, zero, suc, ◌-◌, ◌*◌, ◌/◌, ◌%◌, ◌^◌, ◌<◌, ◌≤◌}
 use mathlib.Core.Path.{◌≡◌, refl, sym, ap, ◌∙◌}
 use mathlib.Core.Bool.{Bool, true, false, not, ◌||◌, true≢false}
@@ -66,13 +66,13 @@ as_is_lem in_words t width x = absurd (true≢false t)
 as_is_lem unless_none t width x = (refl, refl, refl)
 
 -- all but SP stand as they are
-pub as_they_are : (i : ℕ) → i < 15 → (i ≡ 8 → ⊥) → (width x : ℕ)
+pub as_they_are : (i : ℕ) → i < 13 → (i ≡ 8 → ⊥) → (width x : ℕ)
     → (number_for (field_at stored_form i).short x ≡ x) × (value_for (field_at stored_form i).short x ≡ x) × (within_field (field_at stored_form i).short width x ≡ ltb x (256 ^ width))
 as_they_are i l n width x =
-    let tested = run_lem (λ k. eqb k 8 || not (is_in_words (field_at stored_form k).short)) 0 15 refl i (omega arith) (omega arith) in
+    let tested = run_lem (λ k. eqb k 8 || not (is_in_words (field_at stored_form k).short)) 0 13 refl i (omega arith) (omega arith) in
     as_is_lem (field_at stored_form i).short (not-true _ (rw (ne_eqb i 8 n) at tested)) width x
 
-module _ (xs : List ℕ) (l : length xs ≡ 15) where
+module _ (xs : List ℕ) (l : length xs ≡ 13) where
   pub values_back : get_or xs 8 0 ≤ 0x18000 → get_or xs 8 0 % 4 ≡ 0 → values_for (numbers_for xs) ≡ xs
   unfolding values_for numbers_for
   values_back top aligned = each_back number_for value_for stored_form xs l λ i m. elim (ℕ_discrete i 8) [
@@ -90,8 +90,8 @@ module _ (xs : List ℕ) (l : length xs ≡ 15) where
   -- as the code makes them
   pub numbers_set : set xs 8 ((0x18000 - get_or xs 8 0) / 4) ≡ numbers_for xs
   unfolding numbers_for each_field
-  numbers_set = ap (λ (ys : List ℕ). set ys 8 ((0x18000 - get_or ys 8 0) / 4)) (sym (whole 15 xs l)) ∙ ap numbers_for (whole 15 xs l)
+  numbers_set = ap (λ (ys : List ℕ). set ys 8 ((0x18000 - get_or ys 8 0) / 4)) (sym (whole 13 xs l)) ∙ ap numbers_for (whole 13 xs l)
 
   pub values_set : set xs 8 (0x18000 - 4 * get_or xs 8 0) ≡ values_for xs
   unfolding values_for each_field
-  values_set = ap (λ (ys : List ℕ). set ys 8 (0x18000 - 4 * get_or ys 8 0)) (sym (whole 15 xs l)) ∙ ap values_for (whole 15 xs l)
+  values_set = ap (λ (ys : List ℕ). set ys 8 (0x18000 - 4 * get_or ys 8 0)) (sym (whole 13 xs l)) ∙ ap values_for (whole 13 xs l)

@@ -1,4 +1,4 @@
--- What the tests say of fifteen numbers, and of their values.
+-- What the tests say of thirteen numbers, and of their values.
 use Prim.Native.Nat.{ℕ, ◌-◌, ◌*◌, ◌/◌, ◌%◌, ◌^◌, ◌<◌, ◌≤◌}
 use mathlib.Core.Path.{◌≡◌, refl, sym, ap, ◌∙◌}
 use mathlib.Core.Bool.{true}
@@ -21,11 +21,11 @@ use Rattle.short_layout.specs.ShortForm.{number_for, value_for, numbers_for, val
 use Rattle.short_form.specs.ShortStoring.{within_field, number_fits, number_rules}
 use Rattle.short_form.proofs.Numbers.{length_each, at_field, as_they_are}
 
-width_most : (i : ℕ) → i < 15 → width_at stored_form i ≤ 4
-width_most i l = leb-true _ 4 (run_lem (λ k. leb (width_at stored_form k) 4) 0 15 refl i (omega arith) (omega arith))
+width_most : (i : ℕ) → i < 13 → width_at stored_form i ≤ 4
+width_most i l = leb-true _ 4 (run_lem (λ k. leb (width_at stored_form k) 4) 0 13 refl i (omega arith) (omega arith))
 
 -- a value of its width has at most 32 bits
-in_32_bits : (i x : ℕ) → i < 15 → x < 256 ^ width_at stored_form i → x < 2 ^ 32
+in_32_bits : (i x : ℕ) → i < 13 → x < 256 ^ width_at stored_form i → x < 2 ^ 32
 in_32_bits i x l h = omega (arith, h, pow-le-pow_right {n = 256} (omega arith) {i = width_at stored_form i} {j = 4} (width_most i l))
 
 -- ---- SP
@@ -42,8 +42,8 @@ sp_in_range_lem n h = rw (le-leb 0x10000 (0x18000 - 4 * n) (omega arith), le-leb
 
 -- ---- numbers that are accepted
 
-module _ (numbers : List ℕ) (l : length numbers ≡ 15) (t : decision (number_rules numbers) ≡ accepted) where
-  passed : (i : ℕ) → i < 15
+module _ (numbers : List ℕ) (l : length numbers ≡ 13) (t : decision (number_rules numbers) ≡ accepted) where
+  passed : (i : ℕ) → i < 13
       → (within_field (field_at stored_form i).short (width_at stored_form i) (get_or numbers i 0) ≡ true)
       × ((field_at stored_form i).range (get_or numbers 9 0) (value_for (field_at stored_form i).short (get_or numbers i 0)) ≡ true)
   passed i m = both _ _ (each_passes number_fits 7 (get_or numbers 9 0) stored_form numbers 0 i t m (omega arith))
@@ -51,12 +51,12 @@ module _ (numbers : List ℕ) (l : length numbers ≡ 15) (t : decision (number_
   pub sp_number : get_or numbers 8 0 ≤ 8192
   sp_number = leb-true _ 8192 (passed 8 (omega arith)).0
 
-  within_width : (i : ℕ) → i < 15 → (i ≡ 8 → ⊥) → get_or numbers i 0 < 256 ^ width_at stored_form i
+  within_width : (i : ℕ) → i < 13 → (i ≡ 8 → ⊥) → get_or numbers i 0 < 256 ^ width_at stored_form i
   within_width i m n =
       ltb-true _ _ (sym (as_they_are i m n (width_at stored_form i) (get_or numbers i 0)).2 ∙ (passed i m).0)
 
   pub of_32_bits : (k : ℕ) → get_or numbers k 0 < 2 ^ 32
-  of_32_bits k = elim (dec_lt k 15) [
+  of_32_bits k = elim (dec_lt k 13) [
     | yes m ↦ elim (ℕ_discrete k 8) [
       | yes e ↦ rw e (omega (arith, sp_number))
       | no n ↦ in_32_bits k (get_or numbers k 0) m (within_width k m n)
@@ -66,14 +66,14 @@ module _ (numbers : List ℕ) (l : length numbers ≡ 15) (t : decision (number_
   ]
 
   -- their values are those of a record in range
-  value_at : (i : ℕ) → i < 15 → get_or (values_for numbers) i 0 ≡ value_for (field_at stored_form i).short (get_or numbers i 0)
+  value_at : (i : ℕ) → i < 13 → get_or (values_for numbers) i 0 ≡ value_for (field_at stored_form i).short (get_or numbers i 0)
   unfolding values_for
   value_at i m = at_field value_for stored_form numbers i m (omega arith)
 
   pub values_in_range : InRange (values_for numbers)
   values_in_range = none_fails (λ (f : Field). f.range) 7 (get_or (values_for numbers) 9 0) stored_form (values_for numbers) 0 (λ i m. rw (value_at 9 (omega arith), value_at i m) (passed i m).1)
 
-  pub values_length : length (values_for numbers) ≡ 15
+  pub values_length : length (values_for numbers) ≡ 13
   unfolding values_for
   values_length = length_each value_for stored_form numbers l
 
@@ -89,8 +89,8 @@ module _ (numbers : List ℕ) (l : length numbers ≡ 15) (t : decision (number_
 
 -- ---- values of a record in range
 
-module _ (values : List ℕ) (l : length values ≡ 15) (t : InRange values) where
-  pub in_range : (i : ℕ) → i < 15 → (field_at stored_form i).range (get_or values 9 0) (get_or values i 0) ≡ true
+module _ (values : List ℕ) (l : length values ≡ 13) (t : InRange values) where
+  pub in_range : (i : ℕ) → i < 13 → (field_at stored_form i).range (get_or values 9 0) (get_or values i 0) ≡ true
   in_range i m = each_passes (λ (f : Field). f.range) 7 (get_or values 9 0) stored_form values 0 i t m (omega arith)
 
   pub sp_value : (0x10000 ≤ get_or values 8 0) × (get_or values 8 0 ≤ 0x18000) × (get_or values 8 0 % 4 ≡ 0)
@@ -100,16 +100,16 @@ module _ (values : List ℕ) (l : length values ≡ 15) (t : InRange values) whe
   pub none_at_0 : get_or values 9 0 ≡ 0 → get_or values 10 0 ≡ 0
   none_at_0 kind = eqb-true (get_or values 10 0) 0 (rw kind at (in_range 10 (omega arith)))
 
-module _ (values : List ℕ) (l : length values ≡ 15) (t : InRange values) (fit : (i : ℕ) → i < 15 → get_or values i 0 < 256 ^ width_at stored_form i) where
-  pub number_at : (i : ℕ) → i < 15 → get_or (numbers_for values) i 0 ≡ number_for (field_at stored_form i).short (get_or values i 0)
+module _ (values : List ℕ) (l : length values ≡ 13) (t : InRange values) (fit : (i : ℕ) → i < 13 → get_or values i 0 < 256 ^ width_at stored_form i) where
+  pub number_at : (i : ℕ) → i < 13 → get_or (numbers_for values) i 0 ≡ number_for (field_at stored_form i).short (get_or values i 0)
   unfolding numbers_for
   number_at i m = at_field number_for stored_form values i m (omega arith)
 
-  pub numbers_length : length (numbers_for values) ≡ 15
+  pub numbers_length : length (numbers_for values) ≡ 13
   unfolding numbers_for
   numbers_length = length_each number_for stored_form values l
 
-  number_fits_lem : (i : ℕ) → i < 15 → number_fits (field_at stored_form i) (get_or values 9 0) (number_for (field_at stored_form i).short (get_or values i 0)) ≡ true
+  number_fits_lem : (i : ℕ) → i < 13 → number_fits (field_at stored_form i) (get_or values 9 0) (number_for (field_at stored_form i).short (get_or values i 0)) ≡ true
   number_fits_lem i m = elim (ℕ_discrete i 8) [
     | yes e ↦ let n = (0x18000 - get_or values 8 0) / 4 in
         rw (e, le-leb n 8192 (omega (arith, (sp_value values l t).0)), sp_in_range_lem n (omega (arith, (sp_value values l t).0)))
@@ -123,5 +123,5 @@ module _ (values : List ℕ) (l : length values ≡ 15) (t : InRange values) (fi
   pub no_number_for_none : get_or (numbers_for values) 9 0 ≡ 0 → get_or (numbers_for values) 10 0 ≡ 0
   no_number_for_none e = number_at 10 (omega arith) ∙ none_at_0 values l t (sym (number_at 9 (omega arith)) ∙ e)
 
-  pub numbers_of_32_bits : (i : ℕ) → i < 15 → get_or (numbers_for values) i 0 < 2 ^ 32
+  pub numbers_of_32_bits : (i : ℕ) → i < 13 → get_or (numbers_for values) i 0 < 2 ^ 32
   numbers_of_32_bits i m = of_32_bits (numbers_for values) numbers_length numbers_accepted i

@@ -21,10 +21,10 @@ use Rattle.short_form.proofs.Lengths.{length_between}
 -- ---- values in range, each of its field's width
 
 module _ (values : List ℕ) (fits : ValuesFit stored_form values) (t : InRange values) where
-  l : length values ≡ 15
+  l : length values ≡ 13
   l = fits_length stored_form values fits
 
-  fit : (i : ℕ) → i < 15 → get_or values i 0 < 256 ^ width_at stored_form i
+  fit : (i : ℕ) → i < 13 → get_or values i 0 < 256 ^ width_at stored_form i
   fit = fits_at stored_form values fits
 
   -- their bytes hold their numbers
@@ -40,8 +40,8 @@ module _ (values : List ℕ) (fits : ValuesFit stored_form values) (t : InRange 
       let sp = sp_value values l t in
       rw numbers_held (numbers_accepted values l t fit, ap record_of (Numbers.values_back values l sp.1 sp.2))
 
-  -- in 14 to 54 bytes
-  pub lengths : (14 ≤ length (short_bytes (numbers_for values))) × (length (short_bytes (numbers_for values)) ≤ 54)
+  -- in 12 to 49 bytes
+  pub lengths : (12 ≤ length (short_bytes (numbers_for values))) × (length (short_bytes (numbers_for values)) ≤ 49)
   lengths = length_between values l t fit
 
 -- ---- bytes that are read
@@ -65,8 +65,8 @@ pub bytes_kept : (bytes : List ℕ) → ((k : ℕ) → get_or bytes k 0 < 256) �
 unfolding numbers_in
 bytes_kept bytes h t = kept bytes (numbers_in bytes) (read_from_lem stored_form [] bytes h) t
 
--- a form of more bytes than fifteen numbers can have is 9, whatever they are
-pub too_long : (bytes : List ℕ) → ((k : ℕ) → get_or bytes k 0 < 256) → 75 < length bytes → decision (read_rules bytes) ≡ refused 9 []
+-- a form of more bytes than thirteen numbers can have is 9, whatever they are
+pub too_long : (bytes : List ℕ) → ((k : ℕ) → get_or bytes k 0 < 256) → 65 < length bytes → decision (read_rules bytes) ≡ refused 9 []
 too_long bytes h l = rw (Layout.too_long bytes h l)
 
 -- bytes that are accepted are what would be written for the record
@@ -96,6 +96,6 @@ written_reads r h t =
     let k = values_kept (values_of r) (fits r h) t in
     rw (k.0, k.1, record_back r h.eight)
 
-pub form_length_lem : (r : Record) → Held r → InRange (values_of r) → (14 ≤ length (short_form r)) × (length (short_form r) ≤ 54)
+pub form_length_lem : (r : Record) → Held r → InRange (values_of r) → (12 ≤ length (short_form r)) × (length (short_form r) ≤ 49)
 unfolding short_form
 form_length_lem r h t = lengths (values_of r) (fits r h) t

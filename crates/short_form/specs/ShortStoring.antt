@@ -54,7 +54,7 @@ abbrev pub numbers_of : Numbers → List ℕ
 numbers_of (grouped numbers) = numbers
 numbers_of not_grouped = []
 
--- refusal 7, with the position in the 50-byte form
+-- refusal 7, with the position in the 44-byte form
 abbrev pub number_rules : List ℕ → List Rule
 number_rules numbers = value_rules number_fits 7 numbers
 

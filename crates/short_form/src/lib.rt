@@ -21,7 +21,7 @@ pub struct Packed {
 // ---- writing
 
 // SP becomes the number of words up to 0x18000.
-fn numbers_for(values: [u32; 15]) -> [u32; 15]
+fn numbers_for(values: [u32; 13]) -> [u32; 13]
     requires { get_or values 8 0 ≤ 0x18000 }
     ensures { result ≡ numbers_for values }
 {
@@ -30,13 +30,13 @@ fn numbers_for(values: [u32; 15]) -> [u32; 15]
     numbers
 }
 
-// The form is made beside the room first, for its length: it goes to the room whole or not at all. Fifteen numbers of five groups
-// are 75 bytes.
-fn put_form(numbers: [u32; 15], room: &mut [u8]) -> Packed
+// The form is made beside the room first, for its length: it goes to the room whole or not at all. Thirteen numbers of five groups
+// are 65 bytes.
+fn put_form(numbers: [u32; 13], room: &mut [u8]) -> Packed
     ensures { (seen_packed result ≡ pack_answer (decision (room_rule (short_bytes numbers) (length room.old) ∷ [])) (short_bytes numbers))
         × (room.new ≡ room_packed (decision (room_rule (short_bytes numbers) (length room.old) ∷ [])) (short_bytes numbers) room.old) }
 {
-    let mut form = [0u8; 75];
+    let mut form = [0u8; 65];
     let length = short_layout::put_numbers(&mut form, numbers);
     if room.len() < length {
         return Packed {
@@ -80,18 +80,8 @@ fn offset_fits(kind: u64, n: u64) -> bool
     }
 }
 
-// FP has four bytes.
-fn fp_number_fits(n: u64) -> bool
-    ensures { result ≡ number_fits (field_at stored_form 13) 0 n }
-{
-    if n < 0x1_0000_0000 {
-        return state::fp_fits(n as u32);
-    }
-    false
-}
-
 fn number_fits(i: usize, kind: u64, n: u64) -> bool
-    requires { i < 15 }
+    requires { i < 13 }
     ensures { result ≡ number_fits (field_at stored_form i) kind n }
 {
     match i {
@@ -100,20 +90,18 @@ fn number_fits(i: usize, kind: u64, n: u64) -> bool
         10 => offset_fits(kind, n),
         11 => n <= 127,
         12 => n <= 15,
-        13 => fp_number_fits(n),
-        14 => n <= 4095,
         _ => n < 0x1_0000_0000,
     }
 }
 
 // The numbers are in range, or where the first field starts that isn't.
-fn numbers_fit(numbers: [u64; 15]) -> Verdict
+fn numbers_fit(numbers: [u64; 13]) -> Verdict
     ensures { decision_of result ≡ decision (number_rules numbers) }
 {
     let kind = numbers[9];
     let mut at: u32 = 0;
     let mut i: usize = 0;
-    while i < 15 {
+    while i < 13 {
         if !number_fits(i, kind, numbers[i]) {
             return Verdict::Refused(Refusal::FormRange(at));
         }
@@ -124,13 +112,13 @@ fn numbers_fit(numbers: [u64; 15]) -> Verdict
 }
 
 // The values of numbers in range; only SP differs.
-fn values_for(numbers: [u64; 15]) -> [u32; 15]
+fn values_for(numbers: [u64; 13]) -> [u32; 13]
     requires { ((k : ℕ) → get_or numbers k 0 < 2 ^ 32) × (get_or numbers 8 0 ≤ 8192) }
     ensures { result ≡ values_for numbers }
 {
-    let mut values = [0u32; 15];
+    let mut values = [0u32; 13];
     let mut i: usize = 0;
-    while i < 15 {
+    while i < 13 {
         values[i] = numbers[i] as u32;
         i += 1;
     }
@@ -148,7 +136,7 @@ fn groups_verdict(grouped: bool) -> Verdict
 }
 
 // The groups of the whole form are looked at before the range of a number.
-fn verdict_of(grouped: bool, numbers: [u64; 15]) -> Verdict
+fn verdict_of(grouped: bool, numbers: [u64; 13]) -> Verdict
     ensures { decision_of result ≡ decision (groups_rule grouped ∷ number_rules numbers) }
 {
     let groups = groups_verdict(grouped);
@@ -156,7 +144,7 @@ fn verdict_of(grouped: bool, numbers: [u64; 15]) -> Verdict
     refusal::first_of(groups, range)
 }
 
-fn read_numbers(grouped: bool, numbers: [u64; 15]) -> ReadBack
+fn read_numbers(grouped: bool, numbers: [u64; 13]) -> ReadBack
     ensures { seen_read_back result ≡ record_read (decision (groups_rule grouped ∷ number_rules numbers)) numbers }
 {
     let verdict = verdict_of(grouped, numbers);

@@ -26,13 +26,13 @@ always in_words t kind = refl
 always unless_none t kind = absurd (true≢false (sym t))
 
 -- all but the eleventh, whatever the kind
-pub always_there : (i : ℕ) → i < 15 → (i ≡ 10 → ⊥) → (kind : ℕ) → is_there (field_at stored_form i).short kind ≡ true
+pub always_there : (i : ℕ) → i < 13 → (i ≡ 10 → ⊥) → (kind : ℕ) → is_there (field_at stored_form i).short kind ≡ true
 always_there i l n kind =
-    let tested = run_lem (λ k. eqb k 10 || is_there (field_at stored_form k).short 0) 0 15 refl i (omega arith) (omega arith) in
+    let tested = run_lem (λ k. eqb k 10 || is_there (field_at stored_form k).short 0) 0 13 refl i (omega arith) (omega arith) in
     always (field_at stored_form i).short (rw (ne_eqb i 10 n) at tested) kind
 
 -- the kind is known where it is asked for
-pub kind_known : (i : ℕ) (numbers : List ℕ) → i < 15
+pub kind_known : (i : ℕ) (numbers : List ℕ) → i < 13
     → is_there (field_at stored_form i).short (kind_among (take i numbers)) ≡ is_there (field_at stored_form i).short (get_or numbers 9 0)
 kind_known i numbers l = elim (ℕ_discrete i 10) [
   | yes e ↦ rw (e, get_or-take 10 numbers 9 0 (omega arith))
@@ -52,7 +52,7 @@ written_more (f ∷ fields) (suc i) before (n ∷ numbers) l m =
     rw (written_more fields i (before ++ (n ∷ [])) numbers (le_of_suc-le-suc l) (le_of_suc-le-suc m), append_assoc before (n ∷ []) (take i numbers), append_assoc)
 
 -- a turn of the loop
-pub field_more : (i : ℕ) (numbers : List ℕ) → i < 15 → length numbers ≡ 15
+pub field_more : (i : ℕ) (numbers : List ℕ) → i < 13 → length numbers ≡ 13
     → bytes_for (take (i + 1) stored_form) [] numbers
     ≡ bytes_for (take i stored_form) [] numbers ++ field_bytes (field_at stored_form i).short (get_or numbers 9 0) (get_or numbers i 0)
 unfolding field_bytes
@@ -105,7 +105,7 @@ taken s kind x n at bytes h e =
     let e = rw (to_end bytes at) at e in
     rw (← length-drop at bytes, ap bytes_taken e) (taken_when (is_there s kind) (drop at bytes) (λ k. rw get_or-drop (h (at + k))))
 
-module _ (bytes numbers : List ℕ) (at i : ℕ) (l : i < 15) (whole : numbers_behind (drop i stored_form) (take i numbers) (drop at bytes) ≡ numbers_in bytes) where
+module _ (bytes numbers : List ℕ) (at i : ℕ) (l : i < 13) (whole : numbers_behind (drop i stored_form) (take i numbers) (drop at bytes) ≡ numbers_in bytes) where
   -- what is left to read, as a part
   abbrev left : List ℕ
   left = take (length bytes - at) (drop at bytes)
@@ -116,7 +116,7 @@ module _ (bytes numbers : List ℕ) (at i : ℕ) (l : i < 15) (whole : numbers_b
   field_left a e = rw (e, to_end bytes at, ← kind_known i numbers l) (sym (read_more stored_form i (take i numbers) (drop at bytes) l) ∙ whole)
 
   -- a turn of the loop
-  pub read_turn : (x n : ℕ) → length numbers ≡ 15 → number x n ≡ field_in (field_at stored_form i).short (get_or numbers 9 0) left
+  pub read_turn : (x n : ℕ) → length numbers ≡ 13 → number x n ≡ field_in (field_at stored_form i).short (get_or numbers 9 0) left
       → numbers_behind (drop (i + 1) stored_form) (take (i + 1) (set numbers i x)) (drop (at + n) bytes) ≡ numbers_in bytes
   read_turn x n m e = rw (add-one, take-suc-set numbers i x (omega arith), ← drop-drop n at bytes) (field_left (number x n) e)
 
@@ -136,8 +136,8 @@ at_end n at l = elim (ℕ_discrete at n) [
   | no h ↦ rw (ne_eqb at n h, ne_eqb (n - at) 0 (λ e. h (omega arith)))
 ]
 
-pub read_end : (bytes numbers : List ℕ) (at i : ℕ) → i ≡ 15 → at ≤ length bytes → length numbers ≡ 15
+pub read_end : (bytes numbers : List ℕ) (at i : ℕ) → i ≡ 13 → at ≤ length bytes → length numbers ≡ 13
     → numbers_behind (drop i stored_form) (take i numbers) (drop at bytes) ≡ numbers_in bytes
     → cond (eqb at (length bytes)) (grouped numbers) not_grouped ≡ numbers_in bytes
 read_end bytes numbers at i e l m whole =
-    rw (at_end (length bytes) at l, ← length-drop at bytes) (followed (drop at bytes) numbers) ∙ rw (e, take_all 15 numbers (omega arith)) at whole
+    rw (at_end (length bytes) at l, ← length-drop at bytes) (followed (drop at bytes) numbers) ∙ rw (e, take_all 13 numbers (omega arith)) at whole

@@ -38,7 +38,7 @@ by_field (f ∷ fields) before (n ∷ numbers) l h z = (
 )
 
 -- the numbers of the stored form, of 32 bits, the offset of none being 0
-pub form_fitting : (numbers : List ℕ) → length numbers ≡ 15 → ((i : ℕ) → i < 15 → get_or numbers i 0 < 2 ^ 32) → (get_or numbers 9 0 ≡ 0 → get_or numbers 10 0 ≡ 0)
+pub form_fitting : (numbers : List ℕ) → length numbers ≡ 13 → ((i : ℕ) → i < 13 → get_or numbers i 0 < 2 ^ 32) → (get_or numbers 9 0 ≡ 0 → get_or numbers 10 0 ≡ 0)
     → Fitting stored_form [] numbers
 form_fitting numbers l h z = by_field stored_form [] numbers l (λ i m. omega (arith, h i m)) λ i m t. elim (ℕ_discrete i 10) [
   | yes e ↦ rw e (z (none (rw (e, get_or-take 10 numbers 9 0 (omega arith)) at t)))
@@ -143,7 +143,7 @@ length_most_five (f ∷ fields) before (n ∷ numbers) =
     most false = omega arith
 
 -- so bytes that are more aren't grouped
-pub too_long : (bytes : List ℕ) → ((k : ℕ) → get_or bytes k 0 < 256) → 75 < length bytes → numbers_in bytes ≡ not_grouped
+pub too_long : (bytes : List ℕ) → ((k : ℕ) → get_or bytes k 0 < 256) → 65 < length bytes → numbers_in bytes ≡ not_grouped
 unfolding numbers_in
 too_long bytes h l = none (numbers_in bytes) (read_from_lem stored_form [] bytes h)
   where

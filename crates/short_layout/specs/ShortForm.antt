@@ -1,4 +1,4 @@
--- The short stored form of a record: a number for each field of the 50-byte form, in groups of seven bits.
+-- The short stored form of a record: a number for each field of the 44-byte form, in groups of seven bits.
 use Rattle.std.specs.Prelude.{ℕ, ◌*◌, ◌-◌, ◌/◌, Bool, true, false, not, cond, List, [], ◌∷◌, ◌++◌, eqb, get_or, drop, replicate}
 use Rattle.state.specs.declared.Record.{Record}
 use Rattle.layout.specs.StoredForm.{Short, as_is, in_words, unless_none, Field, stored_form, values_of}
@@ -94,4 +94,4 @@ numbers_in bytes = numbers_behind stored_form [] bytes
 -- where the bytes aren't such, all numbers are 0
 abbrev pub held_by : Numbers → InGroups
 held_by (grouped numbers) = record { grouped = true; numbers = numbers }
-held_by not_grouped = record { grouped = false; numbers = replicate 15 0 }
+held_by not_grouped = record { grouped = false; numbers = replicate 13 0 }

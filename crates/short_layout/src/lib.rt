@@ -1,4 +1,4 @@
-// Fifteen numbers to the bytes of the short stored form and back. The offset is left out for base kind 0.
+// Thirteen numbers to the bytes of the short stored form and back. The offset is left out for base kind 0.
 ghost use Rattle.std.specs.Prelude.{◌≡◌, ◌<◌};
 ghost use Rattle.layout.specs.StoredForm.{stored_form, field_at};
 ghost use Rattle.text.specs.Text.{Puts};
@@ -11,13 +11,13 @@ use leb128::Found;
 #[derive(Drop)]
 pub struct InGroups {
     pub grouped: bool,
-    pub numbers: [u64; 15],
+    pub numbers: [u64; 13],
 }
 
 // ---- which fields are there
 
 fn is_there(i: usize, kind: u64) -> bool
-    requires { i < 15 }
+    requires { i < 13 }
     ensures { result ≡ is_there (field_at stored_form i).short kind }
 {
     match i {
@@ -29,7 +29,7 @@ fn is_there(i: usize, kind: u64) -> bool
 // ---- numbers to bytes
 
 fn put_field(bytes: &mut [u8], at: usize, i: usize, kind: u32, n: u32) -> usize
-    requires { i < 15 }
+    requires { i < 13 }
     ensures { Puts bytes.old at (field_bytes (field_at stored_form i).short kind n) result bytes.new }
 {
     if is_there(i, kind as u64) {
@@ -39,13 +39,13 @@ fn put_field(bytes: &mut [u8], at: usize, i: usize, kind: u32, n: u32) -> usize
 }
 
 // All of them, at the start of some bytes; answers where they then end.
-pub fn put_numbers(bytes: &mut [u8], numbers: [u32; 15]) -> usize
+pub fn put_numbers(bytes: &mut [u8], numbers: [u32; 13]) -> usize
     ensures { Puts bytes.old 0 (short_bytes numbers) result bytes.new }
 {
     let kind = numbers[9];
     let mut at: usize = 0;
     let mut i: usize = 0;
-    while i < 15 {
+    while i < 13 {
         at = put_field(&mut *bytes, at, i, kind, numbers[i]);
         i += 1;
     }
@@ -59,12 +59,12 @@ fn not_grouped() -> InGroups
 {
     InGroups {
         grouped: false,
-        numbers: [0u64; 15],
+        numbers: [0u64; 13],
     }
 }
 
 fn field_in(bytes: &[u8], i: usize, kind: u64) -> Found
-    requires { i < 15 }
+    requires { i < 13 }
     ensures { seen_found result ≡ field_in (field_at stored_form i).short kind bytes.now }
 {
     if is_there(i, kind) {
@@ -77,10 +77,10 @@ fn field_in(bytes: &[u8], i: usize, kind: u64) -> Found
 pub fn numbers_in(bytes: &[u8]) -> InGroups
     ensures { result ≡ held_by (numbers_in bytes.now) }
 {
-    let mut numbers = [0u64; 15];
+    let mut numbers = [0u64; 13];
     let mut at: usize = 0;
     let mut i: usize = 0;
-    while i < 15 {
+    while i < 13 {
         let found = field_in(&bytes[at..], i, numbers[9]);
         let Found::Number(n, taken) = found else {
             return not_grouped();

@@ -1,4 +1,4 @@
--- Fit records: four tests, each with a refusal of its own; and the test of FP.
+-- Fit records: four tests, each with a refusal of its own.
 use Rattle.std.specs.Prelude.{ℕ, ◌+◌, ◌%◌, ◌^◌, Bool, true, not, ◌&&◌, ◌||◌, List, [], ◌∷◌, ◌++◌, eqb, ltb, leb}
 use Rattle.refusal.specs.Refusals.{Rule, rule}
 use Rattle.state.specs.declared.Base.{Base}
@@ -24,6 +24,10 @@ abbrev pub external_offset_fits : Base → ℕ → Bool
 external_offset_fits Nothing external = true
 external_offset_fits (Ram o) external = true
 external_offset_fits (External o) external = ltb o external
+
+-- 02's frame test of FP: 0, or a multiple of 4 whose eight words lie in user RAM, from 0x10000 to 0x17FE0
+abbrev pub fp_fits : ℕ → Bool
+fp_fits fp = eqb fp 0 || (eqb (fp % 4) 0 && (leb 0x10000 fp && leb (fp + 32) 0x18000))
 
 -- the first two, and the last two
 abbrev pub sp_fits : ℕ → Bool
@@ -53,13 +57,3 @@ base_rules b external = rule (not (ram_offset_fits b)) 43 [] ∷ rule (not (exte
 -- the first of the four that fails
 abbrev pub fit_rules : Record → ℕ → List Rule
 fit_rules r external = sp_rules r.sp ++ base_rules r.base external
-
--- ---- FP, which no run on a lone page tests
-
--- 02's frame test of FP: 0, or a multiple of 4 whose eight words lie in user RAM, from 0x10000 to 0x17FE0
-abbrev pub fp_fits : ℕ → Bool
-fp_fits fp = eqb fp 0 || (eqb (fp % 4) 0 && (leb 0x10000 fp && leb (fp + 32) 0x18000))
-
--- refusal 45
-abbrev pub fp_rule : ℕ → Rule
-fp_rule fp = rule (not (fp_fits fp)) 45 []

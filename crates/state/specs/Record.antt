@@ -5,7 +5,7 @@ use Rattle.state.specs.declared.Base.{Base}
 use Rattle.state.specs.declared.Base.TheVariants.{Nothing, Ram, External}
 use Rattle.state.specs.declared.Record.{Record}
 
--- the build paper's fresh record: all zero, SP 0x18000, base none; so are 02's FP and page number
+-- the build paper's fresh record: all zero, SP 0x18000, base none
 abbrev pub fresh_record : Record
 fresh_record = record {
   regs = replicate 8 0;
@@ -13,8 +13,6 @@ fresh_record = record {
   flags = record { n = false; z = false; c = false; v = false };
   place = 0;
   base = Nothing;
-  fp = 0;
-  page = 0;
 }
 
 -- ---- parts
@@ -38,16 +36,16 @@ abbrev pub register : Record → ℕ → ℕ
 register r k = register_in r.regs k
 
 unfoldable pub with_register : Record → ℕ → ℕ → Record
-with_register r k x = record { regs = set r.regs k x; sp = r.sp; flags = r.flags; place = r.place; base = r.base; fp = r.fp; page = r.page }
+with_register r k x = record { regs = set r.regs k x; sp = r.sp; flags = r.flags; place = r.place; base = r.base }
 
 unfoldable pub with_sp : Record → ℕ → Record
-with_sp r x = record { regs = r.regs; sp = x; flags = r.flags; place = r.place; base = r.base; fp = r.fp; page = r.page }
+with_sp r x = record { regs = r.regs; sp = x; flags = r.flags; place = r.place; base = r.base }
 
 unfoldable pub with_flags : Record → Flags → Record
-with_flags r f = record { regs = r.regs; sp = r.sp; flags = f; place = r.place; base = r.base; fp = r.fp; page = r.page }
+with_flags r f = record { regs = r.regs; sp = r.sp; flags = f; place = r.place; base = r.base }
 
 unfoldable pub with_place : Record → ℕ → Record
-with_place r p = record { regs = r.regs; sp = r.sp; flags = r.flags; place = p; base = r.base; fp = r.fp; page = r.page }
+with_place r p = record { regs = r.regs; sp = r.sp; flags = r.flags; place = p; base = r.base }
 
 unfoldable pub with_base : Record → Base → Record
-with_base r b = record { regs = r.regs; sp = r.sp; flags = r.flags; place = r.place; base = b; fp = r.fp; page = r.page }
+with_base r b = record { regs = r.regs; sp = r.sp; flags = r.flags; place = r.place; base = b }

@@ -2,7 +2,7 @@
 ghost use Rattle.std.specs.Prelude.{[], ◌∷◌, ◌≡◌, cond, ltb, length, set};
 ghost use Rattle.refusal.specs.Refusals.{decision, decision_of};
 ghost use Rattle.state.specs.Record.{register_in, register, with_register, with_sp, with_flags, with_place, with_base, fresh_record};
-ghost use Rattle.state.specs.FitRecord.{sp_fits, fp_fits, bounds_rule, alignment_rule, sp_rules, base_rules, fit_rules, fp_rule};
+ghost use Rattle.state.specs.FitRecord.{sp_fits, fp_fits, bounds_rule, alignment_rule, sp_rules, base_rules, fit_rules};
 ghost use Rattle.state.specs.Validation.{external_fits, validated, validate_base, seen_validated};
 
 use arm::Flags;
@@ -16,7 +16,7 @@ pub enum Base {
     External(u32),
 }
 
-// The build paper's record, and behind its parts 02's FP and page number.
+// The build paper's record.
 #[derive(Drop)]
 pub struct Record {
     pub regs: [u32; 8],
@@ -25,10 +25,6 @@ pub struct Record {
     // the build paper's place: the number of a halfword, from 0
     pub place: u16,
     pub base: Base,
-    // the frame pointer: where the last frame starts, 0 for none
-    pub fp: u32,
-    // the page of the image that the place is in
-    pub page: u16,
 }
 
 // What base validation answers.
@@ -52,8 +48,6 @@ pub fn fresh_record() -> Record
         },
         place: 0,
         base: Base::Nothing,
-        fp: 0,
-        page: 0,
     }
 }
 
@@ -128,8 +122,6 @@ pub fn set_base(r: Record, b: Base) -> Record
         flags,
         place: r.place,
         base: b,
-        fp: r.fp,
-        page: r.page,
     }
 }
 
@@ -175,6 +167,25 @@ pub fn sp_fits(sp: u32) -> bool
     }
 }
 
+// 02's frame test: no frame, or one whose eight words lie in RAM.
+pub fn fp_fits(fp: u32) -> bool
+    ensures { result ≡ fp_fits fp }
+{
+    if fp == 0 {
+        return true;
+    }
+    if fp % 4 != 0 {
+        return false;
+    }
+    if fp < 0x10000 {
+        return false;
+    }
+    if fp > 0x17FE0 {
+        return false;
+    }
+    true
+}
+
 // The offset of the base, with external data of so many bytes.
 fn base_verdict(b: Base, external: usize) -> Verdict
     ensures { decision_of result ≡ decision (base_rules b external) }
@@ -206,34 +217,6 @@ pub fn fitness(r: Record, external: usize) -> Verdict
     let sp = sp_verdict(r.sp);
     let base = base_verdict(b, external);
     refusal::first_of(sp, base)
-}
-
-// FP is 0, or a multiple of 4 from 0x10000 to 0x17FE0: a frame, eight words, lies in RAM.
-pub fn fp_fits(fp: u32) -> bool
-    ensures { result ≡ fp_fits fp }
-{
-    if fp == 0 {
-        return true;
-    }
-    if fp % 4 != 0 {
-        return false;
-    }
-    if fp < 0x10000 {
-        return false;
-    }
-    if fp > 0x17FE0 {
-        return false;
-    }
-    true
-}
-
-pub fn fp_verdict(fp: u32) -> Verdict
-    ensures { decision_of result ≡ decision (fp_rule fp ∷ []) }
-{
-    if fp_fits(fp) {
-        return Verdict::Accepted;
-    }
-    Verdict::Refused(Refusal::FpUnfit)
 }
 
 // External data has an allowed length.

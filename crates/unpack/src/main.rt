@@ -3,8 +3,8 @@ use streams::Input;
 
 fn main() {
     let program = b"unpack";
-    // One byte more than fifteen numbers of five groups have, so that a longer input is refused.
-    let mut input = [0u8; 76];
+    // One byte more than thirteen numbers of five groups have, so that a longer input is refused.
+    let mut input = [0u8; 66];
     let Input::Bytes(n) = streams::read_input(program, &mut input) else {
         return;
     };

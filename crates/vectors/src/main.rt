@@ -52,8 +52,6 @@ fn refusals() {
     show_refusal(Refusal::FormRange(37));
     show_refusal(Refusal::FormRange(41));
     show_refusal(Refusal::FormRange(43));
-    show_refusal(Refusal::FormRange(44));
-    show_refusal(Refusal::FormRange(48));
     show_refusal(Refusal::NoSuchBundle);
     show_refusal(Refusal::NotGrouped);
     show_refusal(Refusal::RoomTooSmall);
@@ -67,7 +65,6 @@ fn refusals() {
     show_refusal(Refusal::SpAlignment);
     show_refusal(Refusal::RamOffset);
     show_refusal(Refusal::ExternalOffset);
-    show_refusal(Refusal::FpUnfit);
     show_refusal(Refusal::NoRecord(0));
     show_refusal(Refusal::NoRecord(36));
     show_refusal(Refusal::NoRecord(37));
@@ -234,12 +231,12 @@ fn change(bytes: &mut [u8], position: usize, b: u8) {
     }
 }
 
-// The fresh record's form with one byte changed, and that of the flags.
-fn read_back(position: usize, b: u8, flags: u8) {
-    let mut bytes = [0u8; 50];
+// The fresh record's form with one byte changed, and its last one, the flags.
+fn read_back(position: usize, b: u8, last: u8) {
+    let mut bytes = [0u8; 44];
     show_verdict(form::store(state::fresh_record(), &mut bytes));
     change(&mut bytes, position, b);
-    change(&mut bytes, 43, flags);
+    change(&mut bytes, 43, last);
     let answer = form::load(&bytes);
     let verdict = answer.verdict;
     show(b"byte");
@@ -247,13 +244,13 @@ fn read_back(position: usize, b: u8, flags: u8) {
     show(b" ");
     show_hex(b as u64, 2);
     show(b" flags ");
-    show_hex(flags as u64, 2);
+    show_hex(last as u64, 2);
     show(b"\n");
     show_verdict(verdict);
 }
 
 fn store_record(r: Record) {
-    let mut room = [0u8; 50];
+    let mut room = [0u8; 44];
     show_verdict(form::store(r, &mut room));
 }
 
@@ -269,30 +266,6 @@ fn not_stored() {
     store_record(placed);
 }
 
-// The fresh record with an FP and a page number.
-fn store_framed(fp: u32, page: u16) {
-    let mut r = state::fresh_record();
-    r.fp = fp;
-    r.page = page;
-    show(b"fp ");
-    show_hex(fp as u64, 5);
-    show(b" page");
-    show_number(page as u64);
-    show(b"\n");
-    store_record(r);
-}
-
-// The first and the last frame, and a word beyond each; no multiple of 4; a page number too large.
-fn framed() {
-    store_framed(0x10000, 0);
-    store_framed(0x17FE0, 4095);
-    store_framed(0xFFFC, 0);
-    store_framed(0x17FE4, 0);
-    store_framed(4, 0);
-    store_framed(0x10002, 4096);
-    store_framed(0x10004, 4096);
-}
-
 fn stored_forms() {
     // r0; SP 0x18002, 0x18004 and 0x8000, the last with flags out of range too
     read_back(0, 255, 15);
@@ -306,14 +279,9 @@ fn stored_forms() {
     read_back(41, 127, 15);
     read_back(41, 128, 16);
     read_back(41, 127, 16);
-    // FP of 0x10000 and of 2 ^ 24, a page number of 255 and of 4,096
-    read_back(46, 1, 0);
-    read_back(47, 1, 0);
-    read_back(48, 255, 0);
-    read_back(49, 16, 0);
-    // a room and a form that are not 50 bytes
-    show_verdict(form::store(state::fresh_record(), &mut [0u8; 49]));
-    let answer = form::load(&[0u8; 51]);
+    // a room and a form that are not 44 bytes
+    show_verdict(form::store(state::fresh_record(), &mut [0u8; 43]));
+    let answer = form::load(&[0u8; 45]);
     let verdict = answer.verdict;
     show_verdict(verdict);
 }
@@ -469,7 +437,6 @@ fn main() {
     bases();
     stored_forms();
     not_stored();
-    framed();
     ram_edges();
     window_edges();
     external_edges();

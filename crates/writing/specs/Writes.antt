@@ -26,6 +26,6 @@ abbrev pub written_to : List ℕ → Write → List ℕ
 written_to regs NoRegister = regs
 written_to regs (Register k x) = set regs k x
 
--- the record with what was written, at a place; FP and the page stay
+-- the record with what was written, at a place
 unfoldable pub applied : Record → Writes → ℕ → Record
-applied r w place = record { regs = written_to r.regs w.register; sp = w.sp; flags = w.flags; place = place; base = w.base; fp = r.fp; page = r.page }
+applied r w place = record { regs = written_to r.regs w.register; sp = w.sp; flags = w.flags; place = place; base = w.base }

@@ -64,7 +64,7 @@ pub fn writing_base(w: Writes, base: Base) -> Writes
     }
 }
 
-// The record with what was written, at a place; FP and the page stay.
+// The record with what was written, at a place.
 pub fn applied(r: Record, w: Writes, place: u16) -> Record
     ensures { result ≡ writes.applied r w place }
 {
@@ -81,7 +81,5 @@ pub fn applied(r: Record, w: Writes, place: u16) -> Record
         flags,
         place,
         base,
-        fp: r.fp,
-        page: r.page,
     }
 }

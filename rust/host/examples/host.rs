@@ -153,19 +153,18 @@ fn begin(record: &mut Record, first: usize, pairs: u32) {
 }
 
 /// The record packed, as a slow link would take it, and give it back; a file would
-/// take the 50 bytes of `store`. What is damaged on the way and out of range then is
-/// told by its field, here the flags, behind which FP and page stand, each 0 and so of
-/// one byte.
+/// take the 44 bytes of `store`. What is damaged on the way and out of range then is
+/// told by its field, here the flags, which stand last.
 fn over_a_link(record: &Record) -> Result<Record, Refusal> {
     let mut room = [0; SHORT_MOST];
     let length = record.pack(&mut room)?;
     let sent = &mut room[..length];
     println!("packed {length} bytes");
-    sent[length - 3] ^= 16;
+    sent[length - 1] ^= 16;
     if let Err(refusal) = Record::unpack(sent) {
         println!("damaged: {refusal}");
     }
-    sent[length - 3] ^= 16;
+    sent[length - 1] ^= 16;
     Record::unpack(sent)
 }
 
@@ -200,8 +199,7 @@ fn in_an_image(filter: &[u8]) -> Outcome {
     image.replace(1, &page)?;
     println!("image: counts {} {}", image.index()[0], image.index()[1]);
     let (mut ram, mut record) = (vec![0; RAM_LENGTH], Record::default());
-    record.page = 1;
-    let stopped = ImageSetting::new(&image).run(&mut ram, &mut record, SLICE)?;
+    let stopped = ImageSetting::new(&image).run(1, &mut ram, &mut record, SLICE)?;
     let exit = stopped.stop.exit().ok_or("no exit")?;
     println!("page 1: {exit} after {} steps", stopped.steps);
     Ok(())

@@ -8,8 +8,7 @@ use crate::words;
 /// What a service exit asks of the host, with all that its encoding holds.
 ///
 /// The library decodes it and goes no further: SP, registers and place are
-/// the host's to change. In an image a call is an exit only if its target is outside, and
-/// a return only if FP is 0.
+/// the host's to change.
 #[derive(Clone, Copy, Debug, PartialEq, Eq)]
 #[non_exhaustive]
 pub enum Exit {

@@ -28,14 +28,12 @@ pub const IMAGE_PAGES_MOST: usize = 4096;
 /// image.replace(2, &page)?;
 /// assert_eq!(image.index(), [0, 0, 1]);
 ///
+/// let (mut ram, mut record) = (vec![0; RAM_LENGTH], Record::default());
 /// let setting = ImageSetting::new(&image);
-/// let run_from = |page| {
-///     let mut record = Record { page, ..Record::default() };
-///     setting.run(&mut vec![0; RAM_LENGTH], &mut record, 100)
-/// };
-/// assert_eq!(run_from(2)?.stop.to_string(), "service exit 00");
-/// assert_eq!(run_from(0), Err(Refusal::UnfitPlace));
-/// assert_eq!(run_from(3), Err(Refusal::NoSuchPage));
+/// let stopped = setting.run(2, &mut ram, &mut record, 100)?;
+/// assert_eq!(stopped.stop.to_string(), "service exit 00");
+/// assert_eq!(setting.run(0, &mut ram, &mut record, 100), Err(Refusal::UnfitPlace));
+/// assert_eq!(setting.run(3, &mut ram, &mut record, 100), Err(Refusal::NoSuchPage));
 /// # Ok::<(), marshbodkin::Refusal>(())
 /// ```
 #[derive(Debug)]
@@ -129,10 +127,11 @@ impl<'a> Image<'a> {
     }
 }
 
-/// What a step or a run in an image is given beside RAM, record and budget.
+/// What a step or a run in a page of an image is given beside the page's number, RAM, record
+/// and budget.
 ///
-/// In a series of them all get the same setting. While there is one, the image can't be
-/// changed.
+/// In a series of them all get the same setting and the same page. While there is one, the
+/// image can't be changed.
 #[derive(Clone, Copy, Debug)]
 pub struct ImageSetting<'a> {
     image: &'a [u8],
@@ -168,43 +167,17 @@ impl<'a> ImageSetting<'a> {
         ImageSetting { window, ..self }
     }
 
-    /// Runs from a record, in the page of the image that it has: as
-    /// [`Setting::run`](crate::Setting::run) does in that page alone, up to the first call
-    /// into the image or return with FP other than 0, which are ordinary steps here. A call
-    /// puts a frame of eight words below SP, at FP from then on, and goes to its target; a
-    /// tail call saves nothing; a return goes back by the frame at FP. A call out of the
-    /// image, a return with FP 0 and a long branch are exits. Literals are those of the page
-    /// that the place is in. Refusals: 18, 12, 255, 13, 14, 21, 2, 3, 20, 41, 42, 43, 44, 45,
-    /// 5; RAM and record then stay as they were.
+    /// Runs from a record in the page with that number, from 0: as
+    /// [`Setting::run`](crate::Setting::run) does in that page alone, literals, branches and
+    /// exits included. Refusals: 18, 12, 13, 14, 21, 2, 3, 20, 255, 41, 42, 43, 44, 5; RAM
+    /// and record then stay as they were.
     ///
     /// 21 says that some byte of the index isn't its page's count, be it of this page or
     /// another. So every run counts every page of the image: a long slice costs that once,
     /// many short ones each time.
-    ///
-    /// ```
-    /// use marshbodkin::{Image, ImageSetting, Record, IMAGE_PAGE_LENGTH, RAM_LENGTH};
-    ///
-    /// // Page 0: DF01 DF00, a call by the word of bundle 1, 0x00000100, and a return.
-    /// // Page 1: 2001 DF00, r0 = 1 and a return.
-    /// let mut bytes = [0; 2 * IMAGE_PAGE_LENGTH];
-    /// bytes[..8].copy_from_slice(&[0x01, 0xDF, 0x00, 0xDF, 0x00, 0x01, 0x00, 0x00]);
-    /// bytes[256..260].copy_from_slice(&[0x01, 0x20, 0x00, 0xDF]);
-    /// let mut index = [0; 2];
-    /// let mut image = Image::new(&mut bytes, &mut index);
-    /// image.build()?;
-    ///
-    /// let (mut ram, mut record) = (vec![0; RAM_LENGTH], Record::default());
-    /// let setting = ImageSetting::new(&image);
-    /// setting.step(&mut ram, &mut record)?;
-    /// assert_eq!((record.page, record.place, record.fp), (1, 0, 0x17FE0));
-    /// let stopped = setting.run(&mut ram, &mut record, 100)?;
-    /// assert_eq!(stopped.stop.to_string(), "service exit 00");
-    /// assert_eq!((record.page, record.place, record.fp), (0, 1, 0));
-    /// assert_eq!((stopped.steps, record.registers[0]), (3, 1));
-    /// # Ok::<(), marshbodkin::Refusal>(())
-    /// ```
     pub fn run(
         &self,
+        number: u32,
         ram: &mut [u8],
         record: &mut Record,
         budget: u32,
@@ -215,6 +188,7 @@ impl<'a> ImageSetting<'a> {
                 self.index,
                 self.never_return,
                 self.profile,
+                number,
                 ram,
                 self.external,
                 self.window,
@@ -225,13 +199,19 @@ impl<'a> ImageSetting<'a> {
     }
 
     /// One step: a run with budget 1. It too counts every page.
-    pub fn step(&self, ram: &mut [u8], record: &mut Record) -> Result<Stopped, Refusal> {
+    pub fn step(
+        &self,
+        number: u32,
+        ram: &mut [u8],
+        record: &mut Record,
+    ) -> Result<Stopped, Refusal> {
         crossing(record, |bytes| {
             raw::image_step(
                 self.image,
                 self.index,
                 self.never_return,
                 self.profile,
+                number,
                 ram,
                 self.external,
                 self.window,

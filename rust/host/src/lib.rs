@@ -60,8 +60,7 @@
 //! RAM is the filter's unless the host gives it a part, by [`Setting::window`].
 //!
 //! Filters of many pages are an [`Image`], with the count of each page beside it, and
-//! run by an [`ImageSetting`], from the page and the place that the record has. There a
-//! call into the image and the return from it are steps like any other.
+//! run by an [`ImageSetting`].
 //!
 //! Programs, settings, images, records and enums will gain parts; hosts that make the
 //! first four as shown here, and match enums with `_` last, stay right.
@@ -85,7 +84,7 @@ pub use exit::Exit;
 pub use image::{Image, ImageSetting, IMAGE_PAGES_MOST, IMAGE_PAGE_LENGTH};
 pub use program::{Program, Reading, Setting};
 pub use record::{Base, Flags, Record, RECORD_LENGTH};
-pub use record::{AT_BASE_KIND, AT_BASE_OFFSET, AT_FLAGS, AT_FP, AT_PAGE, AT_PLACE, AT_R0, AT_SP};
+pub use record::{AT_BASE_KIND, AT_BASE_OFFSET, AT_FLAGS, AT_PLACE, AT_R0, AT_SP};
 pub use refusal::Refusal;
 pub use short::{pack, unpack, SHORT_LEAST, SHORT_MOST};
 pub use stop::{Fault, Stop, Stopped};
@@ -122,7 +121,7 @@ pub const PROFILE_FULL: u32 = 0;
 pub const PROFILE_SMALL: u32 = 1;
 
 /// The version of these calls: 65536 * major + 256 * minor + patch.
-pub const VERSION: u32 = 0x00_09_00;
+pub const VERSION: u32 = 0x00_08_00;
 
 /// The version of the archive that is linked, to be held against [`VERSION`]
 /// before any other call.

@@ -181,8 +181,7 @@ impl<'a> Setting<'a> {
 
     /// Runs from a record until the budget of steps is spent, a service is
     /// for the host, or a fault. Refusals: 18, 1, 2, 3, 20, 255, 41, 42, 43, 44, 5;
-    /// RAM and record then stay as they were. FP and page are neither looked at nor
-    /// changed.
+    /// RAM and record then stay as they were.
     ///
     /// To cut a run into slices, run on with the same record and RAM while it stops as
     /// [`Stop::Budget`](crate::Stop::Budget): the slices end as one run with the sum of

@@ -1,10 +1,10 @@
 //! The library's calls as they are: over any bytes, answering in numbers.
 //!
-//! A record crosses as 50 bytes. Each call but [`exit`] and [`version`] answers
+//! A record crosses as 44 bytes. Each call but [`exit`] and [`version`] answers
 //! 0 (accepted) or the number of a refusal; a step and a run also 255, where bytes
-//! hold no record. Beside 7 and 255 stands the position, in the 50 bytes, of the
+//! hold no record. Beside 7 and 255 stands the position, in the 44 bytes, of the
 //! first field that fails; beside any other number it is 0, and beside 255 too where
-//! the bytes aren't 50. Beside 7, 0 is r0's position, which only [`unpack`] tells.
+//! the bytes aren't 44. Beside 7, 0 is r0's position, which only [`unpack`] tells.
 //!
 //! Bit n of `never_return` says that direct syscall n never returns; `profile` is
 //! [`PROFILE_FULL`](crate::PROFILE_FULL) or [`PROFILE_SMALL`](crate::PROFILE_SMALL),
@@ -34,7 +34,7 @@ pub struct Answer {
     pub value: u32,
     /// The literal of kind 2, or 0.
     pub literal: u32,
-    /// With 255 the position of the field that fails, or 0 where the bytes aren't 50;
+    /// With 255 the position of the field that fails, or 0 where the bytes aren't 44;
     /// else 0.
     pub position: u32,
     /// The counted steps.
@@ -289,13 +289,14 @@ pub fn image_replace(
     }
 }
 
-/// A run with a budget from the record's page of an image.
+/// A run with a budget in the page of a number.
 #[allow(clippy::too_many_arguments)] // as many as the library's call has
 pub fn image_run(
     image: &[u8],
     index: &[u8],
     never_return: u64,
     profile: u32,
+    number: u32,
     ram: &mut [u8],
     external: &[u8],
     window: Window,
@@ -312,6 +313,7 @@ pub fn image_run(
             index.len(),
             never_return,
             profile,
+            number,
             ram.as_mut_ptr(),
             ram.len(),
             external.as_ptr(),
@@ -331,13 +333,14 @@ pub fn image_run(
     answer
 }
 
-/// One step from the record's page of an image.
+/// One step in the page of a number.
 #[allow(clippy::too_many_arguments)] // as many as the library's call has
 pub fn image_step(
     image: &[u8],
     index: &[u8],
     never_return: u64,
     profile: u32,
+    number: u32,
     ram: &mut [u8],
     external: &[u8],
     window: Window,
@@ -353,6 +356,7 @@ pub fn image_step(
             index.len(),
             never_return,
             profile,
+            number,
             ram.as_mut_ptr(),
             ram.len(),
             external.as_ptr(),

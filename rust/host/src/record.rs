@@ -1,10 +1,10 @@
-//! The record, and its 50 bytes.
+//! The record, and its 44 bytes.
 
 use crate::raw;
 use crate::refusal::{verdict, verdict_at, Refusal};
 
 /// Bytes of a record's stored form.
-pub const RECORD_LENGTH: usize = 50;
+pub const RECORD_LENGTH: usize = 44;
 
 /// Position of r0 in the stored form, of the type that a [`Refusal`] carries; r1 to
 /// r7 follow every four bytes.
@@ -19,10 +19,6 @@ pub const AT_BASE_OFFSET: u32 = 37;
 pub const AT_PLACE: u32 = 41;
 /// Position of the flags in the stored form.
 pub const AT_FLAGS: u32 = 43;
-/// Position of FP in the stored form.
-pub const AT_FP: u32 = 44;
-/// Position of the page in the stored form.
-pub const AT_PAGE: u32 = 48;
 
 /// The condition flags.
 #[derive(Clone, Copy, Debug, Default, PartialEq, Eq)]
@@ -79,12 +75,6 @@ pub struct Record {
     pub place: u16,
     /// What loads and stores go by.
     pub base: Base,
-    /// The address of the current frame, 0 for none. Only calls and returns in an image
-    /// change it.
-    pub fp: u32,
-    /// The page of an image that the place is in, from 0. A run on a lone page has no part
-    /// in it.
-    pub page: u16,
 }
 
 /// A record that no step or run accepts, since SP isn't fit.
@@ -99,8 +89,6 @@ const UNFIT: Record = Record {
     },
     place: 0,
     base: Base::None,
-    fp: 0,
-    page: 0,
 };
 
 /// The fresh record: all zero, SP 0x18000, base none.
@@ -108,7 +96,7 @@ impl Default for Record {
     fn default() -> Record {
         let mut bytes = [0; RECORD_LENGTH];
         let fresh = verdict(raw::fresh(&mut bytes)).and_then(|()| Record::from_bytes(&bytes));
-        // The library never refuses room of 50 bytes; if it did, nothing
+        // The library never refuses room of 44 bytes; if it did, nothing
         // would run.
         fresh.unwrap_or(UNFIT)
     }
@@ -157,8 +145,6 @@ impl Record {
         put(&mut bytes, AT_BASE_OFFSET, &offset.to_le_bytes());
         put(&mut bytes, AT_PLACE, &self.place.to_le_bytes());
         put(&mut bytes, AT_FLAGS, &[self.flags.number()]);
-        put(&mut bytes, AT_FP, &self.fp.to_le_bytes());
-        put(&mut bytes, AT_PAGE, &self.page.to_le_bytes());
         bytes
     }
 
@@ -180,8 +166,6 @@ impl Record {
             flags: Flags::of(flags).ok_or(no_record(AT_FLAGS))?,
             place: u16::from_le_bytes(part(bytes, AT_PLACE)),
             base,
-            fp: word(AT_FP),
-            page: u16::from_le_bytes(part(bytes, AT_PAGE)),
         })
     }
 }
@@ -274,8 +258,6 @@ mod tests {
             },
             place: 0xFF80,
             base: Base::Ram(0x0A0B_0C0D),
-            fp: 0x1A2B_3C4D,
-            page: 0xFE01,
         }
     }
 
@@ -287,8 +269,7 @@ mod tests {
             bytes[28..36],
             [0xDE, 0xBC, 0x9A, 0xF8, 0xC4, 0xD3, 0xE2, 0xF1]
         );
-        assert_eq!(bytes[36..44], [1, 0x0D, 0x0C, 0x0B, 0x0A, 0x80, 0xFF, 9]);
-        assert_eq!(bytes[44..], [0x4D, 0x3C, 0x2B, 0x1A, 0x01, 0xFE]);
+        assert_eq!(bytes[36..], [1, 0x0D, 0x0C, 0x0B, 0x0A, 0x80, 0xFF, 9]);
         assert_eq!(Record::from_bytes(&bytes), Ok(full_record()));
     }
 
@@ -318,8 +299,6 @@ mod tests {
             assert_eq!(with(at, byte), Err(Refusal::NoRecord { position }));
         }
         assert_eq!(with(42, 0xFF).map(|record| record.place), Ok(0xFF00));
-        assert_eq!(with(47, 0xFF).map(|record| record.fp), Ok(0xFF00_0000));
-        assert_eq!(with(49, 0xFF).map(|record| record.page), Ok(0xFF00));
     }
 
     #[test]

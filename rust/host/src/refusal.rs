@@ -8,7 +8,7 @@ use crate::words;
 /// Why a call is refused: 01's refusals, those of an unknown profile, of a window, of a
 /// record's fields, of the short form and of images, and the library's own.
 ///
-/// Two say where in the record's 50 bytes the first field begins that fails, by
+/// Two say where in the record's 44 bytes the first field begins that fails, by
 /// its position, as [`AT_SP`](crate::AT_SP): [`words::field`] names it.
 #[derive(Clone, Copy, Debug, PartialEq, Eq)]
 #[non_exhaustive]
@@ -22,13 +22,13 @@ pub enum Refusal {
     ExternalLength,
     /// 5: the place isn't fit.
     UnfitPlace,
-    /// 6: the stored form, or the room lent for it, isn't 50 bytes.
+    /// 6: the stored form, or the room lent for it, isn't 44 bytes.
     FormLength,
     /// 7: the stored or given record is out of range.
     #[non_exhaustive]
     FormRange {
-        /// 32 SP, 36 base kind, 37 base offset, 41 place, 43 flags, 44 FP, 48 page. In a
-        /// short form also 0 r0, 4 r1 and so on up to 28 r7, of 2^32 or more.
+        /// 32 SP, 36 base kind, 37 base offset, 41 place, 43 flags. In a short
+        /// form also 0 r0, 4 r1 and so on up to 28 r7, of 2^32 or more.
         position: u32,
     },
     /// 8: the asked bundle isn't in the page.
@@ -40,7 +40,7 @@ pub enum Refusal {
     RoomTooSmall,
     /// 12: the image isn't 1 to 4,096 pages of 256 bytes.
     ImageLength,
-    /// 13: the page isn't in the image, in a step and a run that of the record.
+    /// 13: the page isn't in the image.
     NoSuchPage,
     /// 14: the index isn't one byte a page.
     IndexLength,
@@ -62,9 +62,6 @@ pub enum Refusal {
     RamOffset,
     /// 44: the external offset isn't below the external data's length.
     ExternalOffset,
-    /// 45, in an image alone: FP is neither 0 nor a frame in RAM, that is a multiple of
-    /// 4 from 0x10000 to 0x17FE0.
-    UnfitFp,
     /// 255, the library's own: the bytes hold no record. Of what a host can
     /// write, only [`Base::Unknown`](crate::Base::Unknown) brings it.
     #[non_exhaustive]
@@ -102,7 +99,6 @@ impl Refusal {
             42 => Refusal::SpAlignment,
             43 => Refusal::RamOffset,
             44 => Refusal::ExternalOffset,
-            45 => Refusal::UnfitFp,
             255 => Refusal::NoRecord { position },
             unknown => Refusal::Unknown(unknown),
         })
@@ -130,7 +126,6 @@ impl Refusal {
             Refusal::SpAlignment => 42,
             Refusal::RamOffset => 43,
             Refusal::ExternalOffset => 44,
-            Refusal::UnfitFp => 45,
             Refusal::NoRecord { .. } => 255,
             Refusal::Unknown(number) => number,
         }

@@ -5,9 +5,9 @@ use crate::record::{Record, RECORD_LENGTH};
 use crate::refusal::{verdict_at, Refusal};
 
 /// Least bytes of a record's short form.
-pub const SHORT_LEAST: usize = 14;
+pub const SHORT_LEAST: usize = 12;
 /// Most bytes of a record's short form: room of so many does for every record.
-pub const SHORT_MOST: usize = 54;
+pub const SHORT_MOST: usize = 49;
 
 /// Packs a stored form: writes its short form to the start of the room, of which the
 /// other bytes stay, and answers its length.
@@ -21,7 +21,7 @@ pub const SHORT_MOST: usize = 54;
 /// let stored = Record::default().store()?;
 /// let mut room = [0; SHORT_MOST];
 /// let length = pack(&stored, &mut room)?;
-/// assert_eq!(room[..length], [0; 14]);
+/// assert_eq!(room[..length], [0; 12]);
 ///
 /// let mut back = [0; RECORD_LENGTH];
 /// unpack(&room[..length], &mut back)?;
@@ -71,7 +71,7 @@ impl Record {
     /// ```
     /// use marshbodkin::Record;
     ///
-    /// let sent = [0xFF, 0xFF, 0xFF, 0xFF, 0x10, 0, 0, 0, 0, 0, 0, 0, 0, 0, 0, 0, 0, 0];
+    /// let sent = [0xFF, 0xFF, 0xFF, 0xFF, 0x10, 0, 0, 0, 0, 0, 0, 0, 0, 0, 0, 0];
     /// let refused = Record::unpack(&sent).unwrap_err();
     /// let said = "refused 7 0: stored or given record is out of range at r0";
     /// assert_eq!(refused.to_string(), said);

@@ -7,7 +7,7 @@ use crate::raw::Answer;
 use crate::refusal::{verdict_at, Refusal};
 use crate::words;
 
-/// 01's faults, that of a window, and those of calls and returns in an image.
+/// 01's faults, and that of a window.
 #[derive(Clone, Copy, Debug, PartialEq, Eq)]
 #[non_exhaustive]
 pub enum Fault {
@@ -25,12 +25,6 @@ pub enum Fault {
     PastPage,
     /// 7: access to RAM outside the window.
     OutsideWindow,
-    /// 8: a called or returned-to place that isn't fit.
-    UnfitPlace,
-    /// 9: the frame or SP of a call below 0x10000.
-    LowFrame,
-    /// 10: a saved FP that is neither 0 nor a frame in RAM.
-    UnfitFrame,
     /// A number that this version doesn't know.
     Unknown(u32),
 }
@@ -46,9 +40,6 @@ impl Fault {
             5 => Fault::LowStack,
             6 => Fault::PastPage,
             7 => Fault::OutsideWindow,
-            8 => Fault::UnfitPlace,
-            9 => Fault::LowFrame,
-            10 => Fault::UnfitFrame,
             unknown => Fault::Unknown(unknown),
         }
     }
@@ -63,9 +54,6 @@ impl Fault {
             Fault::LowStack => 5,
             Fault::PastPage => 6,
             Fault::OutsideWindow => 7,
-            Fault::UnfitPlace => 8,
-            Fault::LowFrame => 9,
-            Fault::UnfitFrame => 10,
             Fault::Unknown(number) => number,
         }
     }
@@ -247,7 +235,7 @@ mod tests {
         }
         let stop = Stop::of(6, 0, 0);
         assert_eq!(stop.to_string(), "stop 6: unknown");
-        assert_eq!(Stop::of(3, 11, 0), Stop::Fault(Fault::Unknown(11)));
+        assert_eq!(Stop::of(3, 8, 0), Stop::Fault(Fault::Unknown(8)));
         assert_eq!(answer(4, 5, 4), Err(Refusal::Unknown(4)));
     }
 

@@ -1,6 +1,6 @@
 //! What is said of a number: the table "Words" of `docs/MACHINE.md`.
 
-use crate::{AT_BASE_KIND, AT_BASE_OFFSET, AT_FLAGS, AT_FP, AT_PAGE, AT_PLACE, AT_R0, AT_SP};
+use crate::{AT_BASE_KIND, AT_BASE_OFFSET, AT_FLAGS, AT_PLACE, AT_R0, AT_SP};
 
 /// What is said of a number that has no words.
 const UNKNOWN: &str = "unknown";
@@ -13,7 +13,7 @@ pub fn refusal(number: u32) -> &'static str {
         2 => "RAM is not 32768 bytes",
         3 => "external data is above 16777216 bytes or no multiple of 256",
         5 => "place is not fit",
-        6 => "stored form, or the room lent for it, is not 50 bytes",
+        6 => "stored form, or the room lent for it, is not 44 bytes",
         7 => "stored or given record is out of range",
         8 => "asked bundle is not in the page",
         9 => "short form is not in shortest groups, is cut off or is followed by bytes",
@@ -28,13 +28,12 @@ pub fn refusal(number: u32) -> &'static str {
         42 => "SP is no multiple of 4",
         43 => "RAM offset is not below 2^20",
         44 => "external offset is not below the external data's length",
-        45 => "FP is neither 0 nor a frame in RAM",
         255 => "bytes hold no record",
         _ => UNKNOWN,
     }
 }
 
-/// The field of a record that begins at a position of its 50 bytes. To be asked only
+/// The field of a record that begins at a position of its 44 bytes. To be asked only
 /// with 7, where 0 is r0's, or with 255 and a position above 0: elsewhere 0 stands
 /// where no field is told.
 pub fn field(position: u32) -> &'static str {
@@ -52,8 +51,6 @@ pub fn field(position: u32) -> &'static str {
         AT_BASE_OFFSET => "base offset",
         AT_PLACE => "place",
         AT_FLAGS => "flags",
-        AT_FP => "FP",
-        AT_PAGE => "page",
         _ => UNKNOWN,
     }
 }
@@ -68,9 +65,6 @@ pub fn fault(number: u32) -> &'static str {
         5 => "SP below 0x10000",
         6 => "literal load past the page",
         7 => "access to RAM outside the window",
-        8 => "called or returned-to place not fit",
-        9 => "frame or SP of a call below 0x10000",
-        10 => "saved FP neither 0 nor a frame in RAM",
         _ => UNKNOWN,
     }
 }

@@ -32,14 +32,6 @@ fn filled_ram() -> Vec<u8> {
     (0..RAM_LENGTH).map(|at| (7 * at + 3) as u8).collect()
 }
 
-/// The fresh record in a page.
-fn in_page(page: u16) -> Record {
-    Record {
-        page,
-        ..Record::default()
-    }
-}
-
 fn service(low: u8) -> Stop {
     Stop::Service { low, literal: None }
 }
@@ -136,21 +128,21 @@ fn runs_in_a_page() {
     image.build().expect("an image");
     let setting = ImageSetting::new(&image);
     for (number, low, steps) in [(0, 0, 2), (2, 0, 3), (4, 0x80, 2)] {
-        let (mut ram, mut record) = (filled_ram(), in_page(number));
-        let stopped = setting.run(&mut ram, &mut record, 100);
+        let (mut ram, mut record) = (filled_ram(), Record::default());
+        let stopped = setting.run(number, &mut ram, &mut record, 100);
         let stopped = stopped.expect("a fit place");
         assert_eq!((stopped.stop, stopped.steps), (service(low), steps));
 
-        let page = &image_bytes()[256 * usize::from(number)..][..256];
+        let page = &image_bytes()[256 * number as usize..][..256];
         let alone = Setting::new(Program::new(page).never_return(syscall_bit(0)));
-        let (mut own_ram, mut own) = (filled_ram(), in_page(number));
+        let (mut own_ram, mut own) = (filled_ram(), Record::default());
         assert_eq!(alone.run(&mut own_ram, &mut own, 100), Ok(stopped));
         assert_eq!(record, own);
         assert!(ram == own_ram);
 
-        let (mut ram, mut stepped) = (filled_ram(), in_page(number));
+        let (mut ram, mut stepped) = (filled_ram(), Record::default());
         for _ in 0..steps {
-            setting.step(&mut ram, &mut stepped).expect("fit");
+            setting.step(number, &mut ram, &mut stepped).expect("fit");
         }
         assert_eq!(stepped, record);
     }
@@ -164,33 +156,33 @@ fn external_data_and_windows() {
     image.build().expect("an image");
     image.replace(1, &load).expect("a page");
     let setting = ImageSetting::new(&image).external(&[0xA5; 256]);
-    let (mut ram, mut record) = (filled_ram(), in_page(1));
+    let (mut ram, mut record) = (filled_ram(), Record::default());
     record.base = Base::External(252);
-    setting.step(&mut ram, &mut record).expect("a fit place");
+    setting.step(1, &mut ram, &mut record).expect("a fit place");
     assert_eq!(record.registers[0], 0xA5A5_A5A5);
 
     let given = Record {
         sp: 0x10000,
-        ..in_page(3)
+        ..Record::default()
     };
     for (end, stop) in [(4, Stop::Budget), (3, Stop::Fault(Fault::OutsideWindow))] {
         let (mut ram, mut record) = (filled_ram(), given);
         let stopped = setting
             .window(Window { start: 0, end })
-            .step(&mut ram, &mut record);
+            .step(3, &mut ram, &mut record);
         assert_eq!(stopped.map(|stopped| stopped.stop), Ok(stop));
         let written = ram[..4] == [0; 4];
         assert_eq!(written, stop == Stop::Budget);
     }
 }
 
-/// A step and a run are refused, and leave record and RAM as they were.
-fn check_refused(setting: ImageSetting, ram: usize, given: Record, refusal: Refusal) {
+/// A step and a run in page 0 are refused, and leave record and RAM as they were.
+fn check_refused(setting: ImageSetting, number: u32, ram: usize, given: Record, refusal: Refusal) {
     let before: Vec<u8> = filled_ram().into_iter().cycle().take(ram).collect();
     let (mut ram, mut record) = (before.clone(), given);
-    let ran = setting.run(&mut ram, &mut record, 9);
+    let ran = setting.run(number, &mut ram, &mut record, 9);
     assert_eq!(ran, Err(refusal));
-    let stepped = setting.step(&mut ram, &mut record);
+    let stepped = setting.step(number, &mut ram, &mut record);
     assert_eq!(stepped, Err(refusal));
     assert_eq!(record, given);
     assert!(ram == before);
@@ -203,6 +195,7 @@ struct Handed<'a> {
     image: usize,
     index: &'a [u8],
     profile: u32,
+    number: u32,
     /// How many bytes of RAM and of external data.
     ram: usize,
     external: usize,
@@ -218,7 +211,7 @@ impl Handed<'_> {
         let setting = ImageSetting::new(&image)
             .external(&external)
             .window(backwards);
-        check_refused(setting, self.ram, given, refusal);
+        check_refused(setting, self.number, self.ram, given, refusal);
     }
 }
 
@@ -229,21 +222,20 @@ fn the_order_of_a_run() {
         sp: 3,
         place: 2,
         base: Base::Unknown { kind: 9, offset: 9 },
-        fp: 4,
-        page: 5,
         ..Record::default()
     };
     check_order_beside_record(given);
     check_order_in_record(given);
 }
 
-/// All is mended but the record's other fields and, last, the window.
-fn check_order_beside_record(mut given: Record) {
+/// All is mended but the record and, last, the window.
+fn check_order_beside_record(given: Record) {
     let whole = image_bytes().len();
     let mut handed = Handed {
         image: whole - 1,
         index: &[1, 0, 2, 1, 0, 0],
         profile: 2,
+        number: 5,
         ram: 1,
         external: 1,
     };
@@ -251,14 +243,8 @@ fn check_order_beside_record(mut given: Record) {
     handed.profile = 0;
     handed.check_refused(given, Refusal::ImageLength);
     handed.image = whole;
-    handed.check_refused(given, Refusal::of(255, 36).expect("a refusal"));
-    given.base = Base::Unknown { kind: 0, offset: 9 };
-    handed.check_refused(given, Refusal::of(255, 37).expect("a refusal"));
-    given.base = Base::Ram(1 << 20);
     handed.check_refused(given, Refusal::NoSuchPage);
-    given.page = u16::MAX;
-    handed.check_refused(given, Refusal::NoSuchPage);
-    given.page = 0;
+    handed.number = 0;
     handed.check_refused(given, Refusal::IndexLength);
     for (at, byte) in [(0, 0), (0, 2), (2, 1), (4, 1), (4, 255)] {
         let mut wrong = [1, 0, 2, 1, 0];
@@ -282,27 +268,21 @@ fn check_order_in_record(mut given: Record) {
     let (mut bytes, mut index) = (image_bytes(), [1, 0, 2, 1, 0]);
     let image = Image::new(&mut bytes, &mut index);
     let setting = ImageSetting::new(&image);
-    let refused = |given, refusal| check_refused(setting, RAM_LENGTH, given, refusal);
-    given.page = 0;
-    refused(given, Refusal::of(255, 36).expect("a refusal"));
+    let no_record = Refusal::of(255, 36).expect("a refusal");
+    check_refused(setting, 0, RAM_LENGTH, given, no_record);
     given.base = Base::Ram(1 << 20);
-    refused(given, Refusal::SpBounds);
+    check_refused(setting, 0, RAM_LENGTH, given, Refusal::SpBounds);
     given.sp = 0x10002;
-    refused(given, Refusal::SpAlignment);
+    check_refused(setting, 0, RAM_LENGTH, given, Refusal::SpAlignment);
     given.sp = 0x10000;
-    refused(given, Refusal::RamOffset);
+    check_refused(setting, 0, RAM_LENGTH, given, Refusal::RamOffset);
     given.base = Base::External(0);
-    refused(given, Refusal::ExternalOffset);
+    check_refused(setting, 0, RAM_LENGTH, given, Refusal::ExternalOffset);
     given.base = Base::None;
-    for fp in [4, 0xFFFC, 0x10002, 0x17FE4, 0x18000, u32::MAX] {
-        refused(Record { fp, ..given }, Refusal::UnfitFp);
-    }
-    for fp in [0, 0x10000, 0x17FE0] {
-        refused(Record { fp, ..given }, Refusal::UnfitPlace);
-    }
-    (given.fp, given.place) = (0, 0);
-    refused(Record { page: 1, ..given }, Refusal::UnfitPlace);
-    let stopped = setting.run(&mut filled_ram(), &mut given, 9);
+    check_refused(setting, 0, RAM_LENGTH, given, Refusal::UnfitPlace);
+    given.place = 0;
+    check_refused(setting, 1, RAM_LENGTH, given, Refusal::UnfitPlace);
+    let stopped = setting.run(0, &mut filled_ram(), &mut given, 9);
     assert_eq!(stopped.map(|stopped| stopped.stop), Ok(service(0)));
 }
 
@@ -315,7 +295,7 @@ fn an_index_is_right_under_its_platform() {
     let image = image.never_return(syscall_bit(0));
     let fresh = Record::default();
     let refused = Refusal::WrongIndex;
-    check_refused(ImageSetting::new(&image), RAM_LENGTH, fresh, refused);
+    check_refused(ImageSetting::new(&image), 0, RAM_LENGTH, fresh, refused);
     let image = image.never_return(0).profile(PROFILE_SMALL);
-    check_refused(ImageSetting::new(&image), RAM_LENGTH, fresh, refused);
+    check_refused(ImageSetting::new(&image), 0, RAM_LENGTH, fresh, refused);
 }

@@ -21,8 +21,6 @@ fn longest() -> Record {
         },
         place: 127,
         base: Base::External(0xFF_FFFF),
-        fp: 0x17FE0,
-        page: 4095,
     }
 }
 
@@ -30,7 +28,6 @@ fn longest() -> Record {
 fn longest_form() -> Vec<u8> {
     let mut form = [0xFF, 0xFF, 0xFF, 0xFF, 0x0F].repeat(8);
     form.extend([0x80, 0x40, 0x02, 0xFF, 0xFF, 0xFF, 0x07, 0x7F, 0x0F]);
-    form.extend([0xE0, 0xFF, 0x05, 0xFF, 0x1F]);
     form
 }
 
@@ -42,7 +39,7 @@ fn forms() -> [(Record, Vec<u8>); 3] {
         ..Record::default()
     };
     let mut ram_form = vec![0; 8];
-    ram_form.extend([0x01, 0x01, 0x80, 0x01, 0x00, 0x00, 0x00, 0x00]);
+    ram_form.extend([0x01, 0x01, 0x80, 0x01, 0x00, 0x00]);
     [
         (Record::default(), vec![0; SHORT_LEAST]),
         (longest(), longest_form()),
@@ -52,12 +49,7 @@ fn forms() -> [(Record, Vec<u8>); 3] {
 
 /// A short form of zeros with a base of this kind and offset, and place and flags.
 fn with_base(kind: u8, offset: &[u8], place: &[u8], flags: &[u8]) -> Vec<u8> {
-    [&[0; 9], &[kind][..], offset, place, flags, &[0, 0]].concat()
-}
-
-/// A short form of zeros with this FP and page.
-fn with_link(fp: &[u8], page: &[u8]) -> Vec<u8> {
-    [&[0; 12], fp, page].concat()
+    [&[0; 9], &[kind][..], offset, place, flags].concat()
 }
 
 /// Packing into a room of this length: what is answered, and the room.
@@ -124,10 +116,10 @@ fn rooms_to_pack_into() {
 
 #[test]
 fn rooms_to_unpack_into() {
-    for length in [0, 14, 44, 49, 51, 88] {
+    for length in [0, 12, 43, 45, 88] {
         check_not_unpacked(&[0; SHORT_LEAST], length, Refusal::FormLength);
         check_not_unpacked(&[], length, Refusal::FormLength);
-        check_not_unpacked(&[0xFF; 80], length, Refusal::FormLength);
+        check_not_unpacked(&[0xFF; 70], length, Refusal::FormLength);
     }
 }
 
@@ -135,21 +127,14 @@ fn rooms_to_unpack_into() {
 #[test]
 fn refused_packing() {
     let stored = longest().store().expect("in range");
-    for room in [0, 13, SHORT_MOST - 1, SHORT_MOST] {
+    for room in [0, 11, SHORT_MOST - 1, SHORT_MOST] {
         check_not_packed(&[], room, Refusal::FormLength);
-        check_not_packed(&[0xFF; 44], room, Refusal::FormLength);
-        check_not_packed(&[0xFF; 49], room, Refusal::FormLength);
+        check_not_packed(&[0xFF; 43], room, Refusal::FormLength);
         check_not_packed(&[&stored[..], &[0]].concat(), room, Refusal::FormLength);
         for (at, byte, position) in [(34, 0, 32), (36, 3, 36), (40, 1, 37), (42, 1, 41)] {
             let mut wrong = stored;
             wrong[at] = byte;
             wrong[43] = 16;
-            check_not_packed(&wrong, room, out_of_range(position));
-        }
-        for (at, byte, position) in [(44, 0xE4, 44), (45, 0, 48), (49, 0x10, 48)] {
-            let mut wrong = stored;
-            wrong[49] = 0x10;
-            wrong[at] = byte;
             check_not_packed(&wrong, room, out_of_range(position));
         }
     }
@@ -177,7 +162,7 @@ fn refused_by_groups() {
         not_grouped(&instead(&[0xFF, 0x80, 0x80, 0x80, 0]));
         not_grouped(&instead(&[0xFF, 0xFF, 0xFF, 0xFF, 0xFF, 1]));
     }
-    for length in [76, 1000, 100_000] {
+    for length in [66, 1000, 100_000] {
         not_grouped(&vec![0; length]);
         not_grouped(&vec![0xFF; length]);
     }
@@ -190,15 +175,15 @@ fn refused_numbers() {
     for number in 0..8 {
         let mut form = vec![0; number];
         form.extend(past);
-        form.resize(18, 0);
+        form.resize(16, 0);
         check_not_unpacked(&form, RECORD_LENGTH, out_of_range(4 * number as u32));
         let refused = Record::unpack(&form).expect_err("out of range");
         assert_eq!(refused.position(), Some(4 * number as u32));
         assert!(refused.to_string().ends_with(&format!(" at r{number}")));
     }
-    let sp = [&[0; 8], &[0x81, 0x40][..], &[0; 5]].concat(); // 8193
+    let sp = [&[0; 8], &[0x81, 0x40][..], &[0, 0, 0]].concat(); // 8193
     check_not_unpacked(&sp, RECORD_LENGTH, out_of_range(32));
-    let kind = [&[0; 9], &[0x80, 0x02][..], &[0; 5]].concat(); // 256, with an offset
+    let kind = [&[0; 9], &[0x80, 0x02][..], &[0, 0, 0]].concat(); // 256, with an offset
     check_not_unpacked(&kind, RECORD_LENGTH, out_of_range(36));
     for (form, position) in [
         (with_base(3, &[0], &[0], &[0]), 36),
@@ -206,11 +191,6 @@ fn refused_numbers() {
         (with_base(1, &[0x80, 0x80, 0x40], &[0], &[0]), 37), // 2^20
         (with_base(0, &[], &[0x80, 0x80, 0x04], &[0]), 41),  // 65536
         (with_base(0, &[], &[0], &[0x80, 0x02]), 43),        // 256
-        (with_link(&past, &[0]), 44),
-        (with_link(&[4], &[0]), 44),
-        (with_link(&[0xE4, 0xFF, 0x05], &[0x80, 0x20]), 44), // 0x17FE4
-        (with_link(&[0], &[0x80, 0x20]), 48),                // 4096
-        (with_link(&[0], &[0x80, 0x80, 0x04]), 48),          // 65536
     ] {
         check_not_unpacked(&form, RECORD_LENGTH, out_of_range(position));
     }

@@ -65,8 +65,6 @@ fn full_record() -> Record {
         },
         place: 127,
         base: Base::Ram(0xFFFFF),
-        fp: 0x17FE0,
-        page: 4095,
     }
 }
 
@@ -131,8 +129,6 @@ fn fresh_record() {
         flags: Flags::default(),
         place: 0,
         base: Base::None,
-        fp: 0,
-        page: 0,
     };
     assert_eq!(Record::default(), fresh);
 }
@@ -141,8 +137,7 @@ fn fresh_record() {
 fn stored_and_read_back() {
     let record = full_record();
     let stored = record.store().expect("in range");
-    assert_eq!(stored[36..44], [1, 0xFF, 0xFF, 0x0F, 0, 127, 0, 9]);
-    assert_eq!(stored[44..], [0xE0, 0x7F, 1, 0, 0xFF, 0x0F]);
+    assert_eq!(stored[36..], [1, 0xFF, 0xFF, 0x0F, 0, 127, 0, 9]);
     assert_eq!(<[u8; RECORD_LENGTH]>::try_from(&record), Ok(stored));
     assert_eq!(Record::load(&stored), Ok(record));
     assert_eq!(Record::try_from(&stored[..]), Ok(record));
@@ -162,16 +157,14 @@ fn out_of_range(position: u32) -> Record {
         32 => record.sp = 0x10002,
         36 => record.base = Base::Unknown { kind: 3, offset: 0 },
         37 => record.base = Base::Ram(0x10_0000),
-        41 => record.place = 128,
-        44 => record.fp = 0x17FE4,
-        _ => record.page = 4096,
+        _ => record.place = 128,
     }
     record
 }
 
 #[test]
 fn a_store_tells_the_field() {
-    for position in [32, 36, 37, 41, 44, 48] {
+    for position in [32, 36, 37, 41] {
         let refused = Refusal::of(7, position);
         let record = out_of_range(position);
         assert_eq!(record.store().err(), refused);
@@ -192,8 +185,6 @@ fn a_load_tells_the_first_field() {
         (39, 0x10, 37),
         (42, 1, 41),
         (43, 16, 43),
-        (44, 0xE4, 44),
-        (49, 0x10, 48),
     ];
     let stored = full_record().store().expect("in range");
     for (number, (at, byte, position)) in changes.into_iter().enumerate() {
@@ -204,7 +195,7 @@ fn a_load_tells_the_first_field() {
             assert_eq!(Record::load(&damaged).err(), Refusal::of(7, position));
             let tried = Record::try_from(&damaged[..]);
             assert_eq!(tried.err(), Refusal::of(7, position));
-            let cut = Record::load(&damaged[..49]);
+            let cut = Record::load(&damaged[..43]);
             assert_eq!(cut, Err(Refusal::FormLength));
         }
     }
@@ -390,20 +381,6 @@ fn faults() {
         assert_eq!(record, given);
         assert!(ram == filled_ram());
         assert_eq!(fault.number(), number);
-    }
-}
-
-/// A run on a lone page takes any FP and any page, and leaves them; a return stays an exit.
-#[test]
-fn a_lone_page_has_no_part_in_fp_and_page() {
-    for (fp, page) in [(0x17FE0, 7), (0x17FE4, 4096), (1, 65_535), (u32::MAX, 1)] {
-        let mut record = Record {
-            fp,
-            page,
-            ..Record::default()
-        };
-        assert_eq!(run_from(PRINTED, &mut record, 9), returned(4));
-        assert_eq!((record.fp, record.page), (fp, page));
     }
 }
 
@@ -750,7 +727,7 @@ fn no_record_in_raw_bytes() {
     let page = page_of(PRINTED);
     let mut bytes = full_record().store().expect("in range");
     bytes[43] = 16;
-    for (length, position) in [(0, 0), (44, 0), (49, 0), (50, 43)] {
+    for (length, position) in [(0, 0), (43, 0), (44, 43)] {
         let (mut ram, refused) = (filled_ram(), refused_numbers(255, position));
         let (record, whole) = (&mut bytes[..length], Window::WHOLE);
         let ran = raw::run(&page, 0, 0, &mut ram, &[], whole, record, 9);

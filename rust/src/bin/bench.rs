@@ -1,6 +1,5 @@
 //! How fast the library is, beside the second program in the same process:
-//! instructions, pages and stored forms a second, calls and returns, runs in images, and how
-//! the time grows.
+//! instructions, pages and stored forms a second, runs in images, and how the time grows.
 //! No test.
 
 #![forbid(unsafe_code)]
@@ -255,9 +254,9 @@ fn random_pages() -> Vec<Vec<u8>> {
     std::iter::once(returns).chain(whole).collect()
 }
 
-/// Runs from page 0 of an image that take so many steps of a budget, on both sides, so many
-/// times over.
-fn image_runs(bytes: &[u8], (budget, taken): (u32, u32), times: usize) -> Taken {
+/// Runs in page 0 of an image, which stop at their first instruction, on both sides, so many
+/// times over: what they take is the test of the index.
+fn image_runs(bytes: &[u8], times: usize) -> Taken {
     let mut index = vec![0; bytes.len() / PAGE];
     assert_eq!(raw::image_build(bytes, &mut index, 0, 0), 0);
     let (mut ram, fresh) = (vec![0; RAM_SIZE], stored_bytes(&Record::fresh()));
@@ -272,8 +271,8 @@ fn image_runs(bytes: &[u8], (budget, taken): (u32, u32), times: usize) -> Taken 
                 let (mut record, bytes) = (fresh.clone(), black_box(bytes));
                 let (window, index) = (Window::WHOLE, &index[..]);
                 let (ram, record) = (&mut ram, &mut record);
-                let answer = raw::image_run(bytes, index, 0, 0, ram, &[], window, record, budget);
-                assert_eq!((answer.code, answer.steps), (0, taken));
+                let answer = raw::image_run(bytes, index, 0, 0, 0, ram, &[], window, record, 9);
+                assert_eq!((answer.kind, answer.steps), (1, 1));
             }
         },
         || {
@@ -288,27 +287,14 @@ fn image_runs(bytes: &[u8], (budget, taken): (u32, u32), times: usize) -> Taken 
                     external: &[],
                     window: window::Window::WHOLE,
                 };
-                let (_, steps) = run_in(RULES, setting, &mut other, &mut record, budget);
-                assert_eq!(steps, taken);
+                let (_, steps) = run_in(RULES, setting, 0, &mut other, &mut record, 9);
+                assert_eq!(steps, 1);
             }
         },
     )
 }
 
-/// Calls and returns a second, where page 0 calls page 1 for ever, which returns at once: of
-/// three instructions one is the branch back.
-fn link_rates() {
-    let calls = [[asm::service(2), asm::branch(0, 1, 0)], [0xDE00, 0xDE00]];
-    let mut bytes = page_bytes(&calls);
-    bytes.extend(page_bytes(&[asm::word(PAGE as u32)]));
-    bytes.resize(PAGE, 0xDE);
-    bytes.extend(page_bytes(&[[asm::RETURN, asm::RETURN]; 64]));
-    let taken = image_runs(&bytes, (BUDGET, BUDGET), 1);
-    let links = f64::from(BUDGET) * 2.0 / 3.0;
-    taken.rates("calls and returns in an image", "links", links);
-}
-
-/// How a run in an image grows with its pages: what it takes is the test of the index.
+/// How a run in an image grows with its pages.
 fn by_pages() {
     println!("a run in an image that stops at its first instruction, by the image's pages");
     let pages = random_pages();
@@ -321,7 +307,7 @@ fn by_pages() {
             .copied()
             .collect();
         let times = MOST_PAGES / number;
-        let Taken { library, second } = image_runs(&bytes, (9, 1), times);
+        let Taken { library, second } = image_runs(&bytes, times);
         let counts = (number * times) as f64;
         println!(
             "  {number}: library {:.2} us a run, {:.3} M counts/s, second program {:.2} us, {:.3} M, ratio {:.2}",
@@ -376,7 +362,6 @@ fn main() {
     run_rates(&loops);
     count_rates();
     form_rates();
-    link_rates();
     by_budget(&loops);
     by_length();
     by_pages();

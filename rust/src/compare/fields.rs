@@ -1,4 +1,4 @@
-//! Every field of the 50-byte form at and off its edges, each with all of the
+//! Every field of the 44-byte form at and off its edges, each with all of the
 //! others: stored, read back and stepped from. What is told is also known from the
 //! papers, without either side: the first failing field decides.
 
@@ -65,31 +65,12 @@ const BASES: [BaseRow; 20] = [
 const PLACES: [u16; 6] = [0, 127, 128, 256, 32_768, 65_535];
 const FLAGS: [u8; 6] = [0, 15, 16, 31, 128, 255];
 
-/// FP and page, and the position at which they fail in a form (0 for none). A step on a lone
-/// page looks at neither. As many as share no factor with the rows of any other field: by
-/// turns, each meets every choice of any two of those.
-type LinkRow = (u32, u16, u32);
-const LINKS: [LinkRow; 11] = [
-    (0, 0, 0),
-    (0x1_0000, 4095, 0),
-    (0x1_7FE0, 1, 0),
-    (0x1_7FE4, 0, 44),
-    (0x1_0002, 4096, 44),
-    (0xFFFC, 1, 44),
-    (4, 65_535, 44),
-    (u32::MAX, 0, 44),
-    (0, 4096, 48),
-    (0x1_0000, 32_768, 48),
-    (0x1_7FE0, 65_535, 48),
-];
-
 /// A choice of each field.
 pub struct Form {
     sp: (u32, Told),
     base: BaseRow,
     place: u16,
     flags: u8,
-    link: LinkRow,
 }
 
 impl Form {
@@ -106,11 +87,10 @@ impl Form {
             base: BASES[base],
             place: PLACES[place],
             flags: FLAGS[flags],
-            link: LINKS[number % LINKS.len()],
         }
     }
 
-    /// The 50 bytes, with any registers.
+    /// The 44 bytes, with any registers.
     pub fn bytes(&self, random: &mut Random) -> Vec<u8> {
         let mut bytes = Vec::with_capacity(STORED);
         for _ in 0..8 {
@@ -121,8 +101,6 @@ impl Form {
         bytes.extend(self.base.1.to_le_bytes());
         bytes.extend(self.place.to_le_bytes());
         bytes.push(self.flags);
-        bytes.extend(self.link.0.to_le_bytes());
-        bytes.extend(self.link.1.to_le_bytes());
         bytes
     }
 
@@ -136,8 +114,6 @@ impl Form {
             Told::at(7, 41)
         } else if self.flags > 15 {
             Told::at(7, 43)
-        } else if self.link.2 > 0 {
-            Told::at(7, self.link.2)
         } else {
             Told::ACCEPTED
         }
@@ -212,10 +188,10 @@ fn stored_and_loaded(comparison: &mut Comparison, bytes: &[u8], papers: Told) ->
 
 /// The form or the room, or both, of another length: refused before any field.
 fn lengths(comparison: &mut Comparison, bytes: &[u8]) -> Same {
-    for length in [0, 44, 49, 51] {
+    for length in [0, 43, 45] {
         let mut other = bytes.to_vec();
         other.resize(length, 0);
-        let room = [FILLING; 51];
+        let room = [FILLING; 45];
         for (form, room) in [
             (bytes, &room[..length]),
             (&other, &room[..STORED]),

@@ -10,7 +10,6 @@ use super::{codes, sets, Comparison, Same};
 use crate::assemble as asm;
 use crate::random::Random;
 use crate::second::image::{count_byte, Image, Platform, PAGE};
-use crate::second::record::{stored_bytes, Record};
 use crate::second::rules::Rules;
 
 /// Any set and either profile.
@@ -30,10 +29,6 @@ pub fn any_case(random: &mut Random, seed: u64, profile: u32, external: usize) -
         _ => any_run(random, seed, number, external).0,
     };
     case.page.resize(PAGE, 0);
-    // Without a frame a return ends the run, as it does on a lone page.
-    if random.chance(60) {
-        case.record.fp = 0;
-    }
     write_for(random, profile, &mut case.page);
     if random.chance(40) {
         put_syscalls(random, &mut case.page);
@@ -49,14 +44,6 @@ fn put_syscalls(random: &mut Random, page: &mut [u8]) {
             half.copy_from_slice(&syscall.to_le_bytes());
         }
     }
-}
-
-/// The bytes of a record in a page.
-pub fn in_page(number: usize, record: &Record) -> Vec<u8> {
-    stored_bytes(&Record {
-        page: number as u16,
-        ..record.clone()
-    })
 }
 
 /// The pages of these cases one after the other, with an index of any bytes.

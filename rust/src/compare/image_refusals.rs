@@ -2,7 +2,7 @@
 //! the lengths, numbers and pages at the edges of what is allowed. The number is also known
 //! from the papers' order, without either side, and so is that nothing lent changes.
 
-use super::image_cases::{any_case, any_platform, fresh_index, in_page};
+use super::image_cases::{any_case, any_platform, fresh_index};
 use super::image_sides::{Images, InImage, BUILD, REPLACE, RUN, STEP};
 use super::ranges;
 use super::records::{self, SPOILS};
@@ -12,7 +12,7 @@ use super::steps::noise;
 use super::{Comparison, Same};
 use crate::random::Random;
 use crate::second::image::{Platform, MOST_PAGES, PAGE};
-use crate::second::record::Record;
+use crate::second::record::{stored_bytes, Record};
 
 /// How often each choice of wrong things is made; bytes are spoilt in every way, by turns.
 const TIMES: usize = 2 * SPOILS.len();
@@ -24,9 +24,7 @@ const EXTERNAL: usize = 65_536;
 /// The refusals of each call, in the papers' order, with the library's own.
 pub const OF_BUILD: [u32; 3] = [18, 12, 14];
 pub const OF_REPLACE: [u32; 5] = [18, 12, 13, 14, 1];
-pub const OF_RUN: [u32; 15] = [
-    18, 12, NO_RECORD, 13, 14, 21, 2, 3, 20, 41, 42, 43, 44, 45, 5,
-];
+pub const OF_RUN: [u32; 14] = [18, 12, 13, 14, 21, 2, 3, 20, NO_RECORD, 41, 42, 43, 44, 5];
 
 /// A choice of wrong things, by the numbers of a call's refusals: bit n stands for the n-th.
 #[derive(Clone, Copy)]
@@ -124,7 +122,7 @@ pub fn compare(comparison: &mut Comparison) -> Same {
     refused.page_lengths()
 }
 
-/// An image with some things wrong, and the number of a page, for a run that of the record.
+/// An image with some things wrong, and the number of a page.
 struct Lent {
     images: Images,
     platform: Platform,
@@ -162,7 +160,7 @@ impl Refused<'_> {
         }
         let fresh = fresh_index(&bytes, platform);
         if wrong.has(13) {
-            number = past(random, fresh.len(), wrong.order == OF_RUN);
+            number = past(random, fresh.len());
         }
         let mut index = fresh.clone();
         if wrong.has(21) {
@@ -237,17 +235,15 @@ impl Refused<'_> {
         let random = &mut self.random;
         // Time 0 would ask for the longest external data.
         let length = refusals::external_length(random, wrong.has(3), time.max(1));
-        let mut record = refusals::record(random, |number| wrong.has(number), length);
-        if wrong.has(45) {
-            record.fp = random.pick(&records::FP_OUT);
-        }
-        let mut record = in_page(lent.number as usize, &record);
+        let record = refusals::record(random, |number| wrong.has(number), length);
+        let mut record = stored_bytes(&record);
         if wrong.has(NO_RECORD) {
             records::spoil(random, &mut record, spoilt(time));
         }
         let rams = vec![0x5A; refusals::ram_length(random, wrong.has(2))];
         let handed = InImage {
             platform: lent.platform,
+            number: lent.number,
             external: &self.external[..length],
             window: refusals::window(random, wrong.has(20), time),
             record: &record,
@@ -257,12 +253,10 @@ impl Refused<'_> {
         self.run_and_step(&handed, &lent.images, Rams::new(rams), papers)
             .map_err(|found| said(wrong, &found))?;
         // What is cut off or overwritten is not wrong any more.
-        let stays = !spoilt(time).is_empty();
-        let base_stays = stays && !spoilt(time).iter().any(|&at| at < 43);
+        let base_stays = !spoilt(time).iter().any(|&at| at < 43) && !spoilt(time).is_empty();
         let pair = wrong.pair().filter(|&pair| match pair {
-            (NO_RECORD, 43 | 44) => base_stays,
-            (NO_RECORD, 13 | 41 | 42 | 45 | 5) => stays,
             (21, _) | (_, 21) => lent.wrong_byte,
+            (NO_RECORD, 43 | 44) => base_stays,
             _ => true,
         });
         for call in [RUN, STEP] {
@@ -325,16 +319,17 @@ impl Refused<'_> {
         let number = images.pages().saturating_sub(1) as u32;
         self.comparison
             .replaced(platform, number, &page, images, papers)?;
-        self.fresh_run(platform, number as u16, images, papers)
+        self.fresh_run(platform, number, images, papers)
     }
 
-    /// A run and a step from the fresh record in a page.
-    fn fresh_run(&mut self, platform: Platform, page: u16, images: &Images, papers: u32) -> Same {
+    /// A run and a step from the fresh record.
+    fn fresh_run(&mut self, platform: Platform, number: u32, images: &Images, papers: u32) -> Same {
         let handed = InImage {
             platform,
+            number,
             external: &[],
             window: ranges::any(&mut self.random),
-            record: &in_page(page.into(), &Record::fresh()),
+            record: &stored_bytes(&Record::fresh()),
             budget: 9,
         };
         self.run_and_step(&handed, images, Rams::zero(), Told::plain(papers))
@@ -350,7 +345,7 @@ impl Refused<'_> {
             self.comparison.built(platform, &mut images, 0)?;
             let pages = pages as u32;
             let near = [0, pages - 1, pages, pages + 1];
-            let far = [256, 4095, 4096, 65_535, 65_536, 1 << 24, 1 << 31, u32::MAX];
+            let far = [256, 4095, 4096, 65_536, 1 << 24, 1 << 31, u32::MAX];
             for number in near.into_iter().chain(far) {
                 let papers = if number < pages { 0 } else { 13 };
                 self.one_number(platform, number, &mut images, papers)
@@ -360,7 +355,7 @@ impl Refused<'_> {
         Ok(())
     }
 
-    /// A replacement in a page and, where a record can name it, a step and a run.
+    /// A replacement, a step and a run in a page.
     fn one_number(
         &mut self,
         platform: Platform,
@@ -372,10 +367,7 @@ impl Refused<'_> {
         page.resize(PAGE, 0);
         self.comparison
             .replaced(platform, number, &page, images, papers)?;
-        match u16::try_from(number) {
-            Ok(page) => self.fresh_run(platform, page, images, papers),
-            Err(_) => Ok(()),
-        }
+        self.fresh_run(platform, number, images, papers)
     }
 
     /// Lengths of a page that takes another's place.
@@ -404,14 +396,11 @@ fn wrong_length(random: &mut Random, mut bytes: Vec<u8>, time: usize) -> Vec<u8>
     bytes
 }
 
-/// The number of a page that an image of so many has not, in 16 bits if a record has it.
-fn past(random: &mut Random, pages: usize, of_a_record: bool) -> usize {
-    let near = [pages, pages + 1, MOST_PAGES];
-    let far = match of_a_record {
-        true => [4095, 1 << 15, u16::MAX.into()],
-        false => [1 << 16, 1 << 24, u32::MAX as usize],
-    };
-    random.pick(&[near, far].concat()).max(pages)
+/// The number of a page that an image of so many has not.
+fn past(random: &mut Random, pages: usize) -> usize {
+    let most = u32::MAX as usize;
+    let numbers = [pages, pages + 1, MOST_PAGES, 1 << 16, 1 << 24, most];
+    random.pick(&numbers).max(pages)
 }
 
 /// Another byte somewhere in the index, if it has any.

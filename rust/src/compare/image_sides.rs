@@ -7,7 +7,6 @@ use super::sides::{library_window, numbers, Given, Handed, Rams, Told};
 use super::Comparison;
 use crate::second::image::{build, replace, run_in, Image, ImageSetting, Lent, Platform, PAGE};
 use crate::second::page::Code;
-use crate::second::record::Fields;
 use crate::second::rules::Rules;
 use crate::second::window::Window;
 
@@ -90,6 +89,7 @@ impl Images {
 #[derive(Clone, Copy)]
 pub struct InImage<'a> {
     pub platform: Platform,
+    pub number: u32,
     pub external: &'a [u8],
     pub window: Window,
     pub record: &'a [u8],
@@ -102,14 +102,9 @@ impl<'a> InImage<'a> {
         InImage { budget, ..self }
     }
 
-    /// The page that the record's bytes name; 0 where they are not as many as a record's.
-    pub fn page(&self) -> usize {
-        Fields::read(self.record).map_or(0, |fields| fields.page.into())
-    }
-
     /// What a run on its page alone is handed; the page must be in the image.
     pub fn alone(&self, images: &'a Images) -> Handed<'a> {
-        self.on(images.code(self.platform, self.page()))
+        self.on(images.code(self.platform, self.number as usize))
     }
 
     /// What a run on a page is handed.
@@ -137,6 +132,7 @@ fn library_run(handed: &InImage, stored: &Stored, ram: &mut [u8]) -> Given {
         &stored.index,
         handed.platform.never_return.0,
         handed.platform.profile,
+        handed.number,
         ram,
         handed.external,
         library_window(handed.window),
@@ -154,6 +150,7 @@ fn library_step(handed: &InImage, stored: &Stored, ram: &mut [u8]) -> Given {
         &stored.index,
         handed.platform.never_return.0,
         handed.platform.profile,
+        handed.number,
         ram,
         handed.external,
         library_window(handed.window),
@@ -170,7 +167,8 @@ fn second_run(rules: Rules, handed: &InImage, stored: &Stored, ram: &mut [u8]) -
         external: handed.external,
         window: handed.window,
     };
-    let (stop, steps) = run_in(rules, setting, ram, &mut record, handed.budget);
+    let (number, budget) = (handed.number, handed.budget);
+    let (stop, steps) = run_in(rules, setting, number, ram, &mut record, budget);
     let numbers = numbers(stop, steps);
     Given { numbers, record }
 }
@@ -256,7 +254,6 @@ impl Comparison {
             self.image_ends(call, handed, images, [side, expected])?;
         }
         self.tally.image_stop(STEP, handed, images, &second);
-        self.tally.linked(handed, images, &second);
         Ok(second)
     }
 

@@ -1,27 +1,26 @@
 //! Images of 1 to 40 pages and one of 4,096: built, replaced page by page with refused
 //! replacements among them, and run in any page, alone and in slices; indexes with wrong
 //! bytes; and single steps at the edges of instructions, in small images. That the index is
-//! the counts worked out afresh, that a run is that of its page alone up to a link, and that
-//! it goes by nothing outside its window and changes nothing there, is also known without
-//! either side.
+//! the counts worked out afresh, that a run is that of its page alone, and that it goes by
+//! nothing outside its window and changes nothing there, is also known without either side.
 
-use super::calls::outside_stays;
+use super::calls::{outside_stays, same_end, same_inside};
 use super::cases::{self, Case};
 use super::codes::UNKNOWN;
-use super::image_cases::{any_case, any_platform, image_of, in_page, is_fresh};
-use super::image_runs::{held, refused, series};
+use super::image_cases::{any_case, any_platform, image_of, is_fresh};
 use super::image_sides::{Images, InImage};
-use super::ranges;
+use super::ranges::{self, REFUSED};
 use super::records;
 use super::sets;
-use super::sides::Rams;
+use super::sides::{Given, Rams};
 use super::steps::noise;
 use super::{Comparison, Same};
 use crate::random::Random;
 use crate::second::image::{Platform, MOST_PAGES, PAGE};
 use crate::second::memory::RAM_SIZE;
 use crate::second::profile::{FULL, SMALL};
-use crate::second::record::Record;
+use crate::second::record::{stored_bytes, Record};
+use crate::second::window::Window;
 
 /// Most pages of an image, but for the largest.
 const MOST: usize = 40;
@@ -130,26 +129,22 @@ impl<'a> Tried<'a> {
     /// edge of what an instruction does.
     fn at_edge(&mut self) -> Same {
         self.comparison.built(self.platform, &mut self.images, 0)?;
-        let number = self.any_number();
+        let number = self.any_number() as u32;
         let mut case = cases::any(self.random, self.external.len());
         case.page.resize(PAGE, 0);
-        self.comparison.replaced(
-            self.platform,
-            number as u32,
-            &case.page,
-            &mut self.images,
-            0,
-        )?;
+        self.comparison
+            .replaced(self.platform, number, &case.page, &mut self.images, 0)?;
         let handed = InImage {
             platform: self.platform,
+            number,
             external: self.external,
             window: ranges::any(self.random),
-            record: &in_page(number, &case.record),
+            record: &stored_bytes(&case.record),
             budget: 5,
         };
         let step = handed.with_budget(1);
         self.comparison.image_step(&step, &self.images, self.rams)?;
-        held(self.comparison, &self.images, &handed, self.rams)
+        self.alone(&handed)
     }
 
     /// Any page of the image.
@@ -177,25 +172,120 @@ impl<'a> Tried<'a> {
         let record = &self.cases[number].record;
         let handed = InImage {
             platform: self.platform,
+            number: number as u32,
             external: self.external,
             window: ranges::for_run(self.random, record),
-            record: &in_page(number, record),
+            record: &stored_bytes(record),
             budget: self.random.pick(&[0, 1, 2, 7, 40, 300]),
         };
-        held(self.comparison, &self.images, &handed, self.rams)?;
+        self.alone(&handed)?;
         let before = self.rams.library.clone();
         self.comparison
             .image_step(&handed.with_budget(1), &self.images, self.rams)?;
         outside_stays(handed.window, &before, &self.rams.library)?;
-        let whole = handed.with_budget(WHOLE);
-        let given = series(
-            self.comparison,
-            self.random,
-            &self.images,
-            &whole,
-            self.rams,
-        )?;
+        let given = self.series(&handed.with_budget(WHOLE))?;
         Ok(given.numbers.steps > 1)
+    }
+
+    /// A run in an image gives what one in its page alone gives; and with other bytes
+    /// outside its window the same inside.
+    fn alone(&mut self, handed: &InImage) -> Same {
+        let (before, mut own) = (self.rams.library.clone(), self.rams.clone());
+        let mut other = self.rams.clone();
+        change_outside(&mut other, handed.window);
+        let given = self.comparison.image_run(handed, &self.images, self.rams)?;
+        outside_stays(handed.window, &before, &self.rams.library)?;
+        let alone = handed.alone(&self.images);
+        let by_itself = self.comparison.run(&alone, &mut own)?;
+        let names = ["a run in an image", "one in its page alone"];
+        let ends = [(&given, &*self.rams), (&by_itself, &own)];
+        same_end(names, &alone, ends)?;
+        let again = self
+            .comparison
+            .image_run(handed, &self.images, &mut other)?;
+        let names = ["a run in an image", "one in another RAM"];
+        let ends = [(&given, &*self.rams), (&again, &other)];
+        same_inside(names, &alone, ends)?;
+        self.comparison.tally.alone(&given);
+        Ok(())
+    }
+
+    /// One run, and the same steps as a series of calls in the same page.
+    fn series(&mut self, handed: &InImage) -> Result<Given, String> {
+        let mut parts = self.rams.clone();
+        let whole = self.comparison.image_run(handed, &self.images, self.rams)?;
+        let given = self.as_series(handed, &mut parts)?;
+        let alone = handed.alone(&self.images);
+        let ends = [(&given, &parts), (&whole, &*self.rams)];
+        same_end(["a series in an image", "one run"], &alone, ends)?;
+        Ok(given)
+    }
+
+    /// The steps of a run as a series of calls, and what they give together: all that the
+    /// last gives, but the steps of all.
+    fn as_series(&mut self, handed: &InImage, rams: &mut Rams) -> Result<Given, String> {
+        let (mut record, mut steps, mut calls) = (handed.record.to_vec(), 0, 0);
+        loop {
+            let own = InImage {
+                record: &record,
+                budget: handed.budget - steps,
+                ..*handed
+            };
+            let mut given = self.one_call(&own, rams)?;
+            steps += given.numbers.steps;
+            calls += 1;
+            if given.numbers.kind != 0 || steps == handed.budget {
+                self.comparison.tally.image_series(calls, &given);
+                given.numbers.steps = steps;
+                return Ok(given);
+            }
+            record = given.record;
+        }
+    }
+
+    /// A step or a run with a part of the budget; now and then comes a call before it that
+    /// is refused.
+    fn one_call(&mut self, own: &InImage, rams: &mut Rams) -> Result<Given, String> {
+        if self.random.chance(15) {
+            self.refused_call(own, rams)?;
+        }
+        let budget = self.random.pick(&[0, 1, 1, 3, 20, 50]).min(own.budget);
+        let handed = own.with_budget(budget);
+        match budget {
+            1 => self.comparison.image_step(&handed, &self.images, rams),
+            _ => self.comparison.image_run(&handed, &self.images, rams),
+        }
+    }
+
+    /// The call with a page that isn't there, an unknown profile, a window that is refused
+    /// or an index with a wrong byte.
+    fn refused_call(&mut self, own: &InImage, rams: &mut Rams) -> Same {
+        let mut other = *own;
+        let mut images = self.images.clone();
+        let papers = match self.random.below(4) {
+            0 => {
+                other.number = (images.pages() + self.random.below(3)) as u32;
+                13
+            }
+            1 => {
+                other.platform.profile = self.random.pick(&UNKNOWN);
+                18
+            }
+            2 => {
+                other.window = self.random.pick(&REFUSED);
+                20
+            }
+            _ => {
+                let at = self.any_number();
+                images.set_byte(at, images.library.index[at] ^ 1);
+                21
+            }
+        };
+        let before = rams.library.clone();
+        let given = self.comparison.image_run(&other, &images, rams)?;
+        refused(&given, papers, &other, (&before, &rams.library))?;
+        self.comparison.tally.refused_between();
+        Ok(())
     }
 
     /// A replacement, or one that is refused.
@@ -293,9 +383,10 @@ impl<'a> Tried<'a> {
     ) -> Same {
         let handed = InImage {
             platform: self.platform,
+            number: number as u32,
             external: self.external,
             window: ranges::any(self.random),
-            record: &in_page(number, record),
+            record: &stored_bytes(record),
             budget: 5,
         };
         let before = self.rams.library.clone();
@@ -330,7 +421,7 @@ impl<'a> Tried<'a> {
         self.comparison.tally.image(pages);
         self.comparison.built(self.platform, &mut self.images, 0)?;
         for number in [0, pages / 2, pages - 1] {
-            self.replaced_and_run(number)?;
+            self.replaced_and_run(number as u32)?;
         }
         is_fresh(&self.images, self.platform)?;
         for spoilt in Spoilt::all(pages) {
@@ -342,24 +433,20 @@ impl<'a> Tried<'a> {
     }
 
     /// A page that is put into the image and run there.
-    fn replaced_and_run(&mut self, number: usize) -> Same {
+    fn replaced_and_run(&mut self, number: u32) -> Same {
         let (seed, external) = (self.comparison.seed, self.external.len());
         let case = any_case(self.random, seed, self.platform.profile, external);
-        self.comparison.replaced(
-            self.platform,
-            number as u32,
-            &case.page,
-            &mut self.images,
-            0,
-        )?;
+        self.comparison
+            .replaced(self.platform, number, &case.page, &mut self.images, 0)?;
         let handed = InImage {
             platform: self.platform,
+            number,
             external: self.external,
             window: ranges::any(self.random),
-            record: &in_page(number, &case.record),
+            record: &stored_bytes(&case.record),
             budget: 50,
         };
-        held(self.comparison, &self.images, &handed, self.rams)
+        self.alone(&handed)
     }
 
     /// The index under another set or profile is wrong, if a count differs there.
@@ -379,11 +466,11 @@ impl<'a> Tried<'a> {
 
     /// A run under a platform, refused by 21 just if the index is wrong there.
     fn run_under(&mut self, platform: Platform) -> Same {
-        let number = self.any_number();
         let handed = InImage {
             platform,
+            number: self.any_number() as u32,
             external: self.external,
-            record: &in_page(number, &records::fit(self.random, 0)),
+            record: &stored_bytes(&records::fit(self.random, 0)),
             window: ranges::any(self.random),
             budget: 3,
         };
@@ -411,6 +498,32 @@ fn spoil(images: &mut Images, Spoilt { at, one_more }: Spoilt) {
         false => byte.wrapping_sub(1),
     };
     images.set_byte(at, wrong);
+}
+
+/// Other bytes outside a window, on both sides.
+fn change_outside(rams: &mut Rams, window: Window) {
+    let (start, end) = (window.start as usize, window.end as usize);
+    for ram in [&mut rams.library, &mut rams.second] {
+        let (before, rest) = ram.split_at_mut(start);
+        let behind = &mut rest[end - start..];
+        for byte in before.iter_mut().chain(behind) {
+            *byte = !*byte;
+        }
+    }
+}
+
+/// That a call was refused by a number, and changed neither record nor RAM.
+fn refused(given: &Given, papers: u32, handed: &InImage, (before, after): (&[u8], &[u8])) -> Same {
+    let numbers = given.numbers;
+    if (numbers.code, numbers.kind, numbers.steps) != (papers, 5, 0) {
+        return Err(format!(
+            "both sides give {numbers:?}, the papers refuse by {papers}"
+        ));
+    }
+    match given.record == handed.record && before == after {
+        true => Ok(()),
+        false => Err("both sides refuse, but change record or RAM".to_string()),
+    }
 }
 
 /// The largest image, of a few pages over and over.

@@ -6,7 +6,7 @@ use super::image_sides::{Images, InImage, BUILD, REPLACE, RUN, STEP};
 use super::images::Spoilt;
 use super::ranges::{self, KINDS_ALLOWED};
 use super::sets;
-use super::sides::{record_in, Given, Told, NO_RECORD};
+use super::sides::{Given, Told, NO_RECORD};
 use super::tally::{Tally, FAULTS, MARK, STOPS};
 use crate::second::image::MOST_PAGES;
 use crate::second::profile::{FULL, SMALL};
@@ -26,7 +26,7 @@ pub const OF_A_REPLACEMENT: [Told; 6] = [
     Told::plain(14),
     Told::plain(18),
 ];
-pub const OF_A_RUN: [Told; 19] = [
+pub const OF_A_RUN: [Told; 18] = [
     Told::ACCEPTED,
     Told::plain(2),
     Told::plain(3),
@@ -41,7 +41,6 @@ pub const OF_A_RUN: [Told; 19] = [
     Told::plain(42),
     Told::plain(43),
     Told::plain(44),
-    Told::plain(45),
     Told::at(NO_RECORD, 0),
     Told::at(NO_RECORD, 36),
     Told::at(NO_RECORD, 37),
@@ -70,13 +69,8 @@ const SETS: &str = "image runs: sets";
 const PROFILES: &str = "image runs: profiles";
 const WINDOWS: &str = "image runs: windows";
 
-/// Runs that gave what one in the page alone gives, by their stops; and those that gave it up
-/// to a call into the image or a return through a frame.
+/// Runs that gave what one in the page alone gives, by their stops.
 const ALONE: &str = "image runs as in a page alone";
-const UP_TO_A_LINK: &str = "up to a link";
-
-/// Stops that a larger budget leaves as they are.
-const LARGER: &str = "image runs with a larger budget";
 
 /// Replacements.
 const REPLACEMENTS: &str = "replacements";
@@ -101,7 +95,7 @@ const WRONG_BYTES: [&str; 12] = [
 
 /// What else was met.
 const MET: &str = "images met";
-const ALSO_MET: [&str; 8] = [
+const ALSO_MET: [&str; 7] = [
     "steps in several pages of one",
     "a series of several calls",
     "a series of several calls that ends at an exit",
@@ -109,7 +103,6 @@ const ALSO_MET: [&str; 8] = [
     "a wrong byte left by a replacement beside it",
     "an index of another set",
     "an index of another profile",
-    "a series of several calls that ends in another page",
 ];
 
 /// The calls, each with its refusals in order.
@@ -138,8 +131,7 @@ pub fn required() -> impl Iterator<Item = (&'static str, &'static str)> {
         .chain(sets::KINDS.map(|name| (SETS, name)))
         .chain([FULL, SMALL].map(|profile| (PROFILES, codes::kind(profile))))
         .chain(KINDS_ALLOWED.map(|name| (WINDOWS, name)))
-        .chain([budget, service, literal, fault, UP_TO_A_LINK].map(|name| (ALONE, name)))
-        .chain([service, literal, fault].map(|name| (LARGER, name)))
+        .chain([budget, service, literal, fault].map(|name| (ALONE, name)))
         .chain(REPLACED.map(|name| (REPLACEMENTS, name)))
         .chain(WRONG_BYTES.map(|name| (WRONG, name)))
         .chain(ALSO_MET.map(|name| (MET, name)))
@@ -189,21 +181,15 @@ impl Tally {
         if given.numbers.steps == 0 {
             return;
         }
-        self.class(STOOD, stands(handed.page(), images.pages()));
+        self.class(STOOD, stands(handed.number as usize, images.pages()));
         self.class(SETS, sets::kind(handed.platform.never_return));
         self.class(PROFILES, codes::kind(handed.platform.profile));
         self.class(WINDOWS, ranges::kind(handed.window));
     }
 
-    /// Counts a run that gave what one in the page alone gave, whole or up to a link.
-    pub fn alone(&mut self, given: &Given, is_whole: bool) {
-        self.class(
-            ALONE,
-            match is_whole {
-                true => STOPS[given.numbers.kind as usize],
-                false => UP_TO_A_LINK,
-            },
-        );
+    /// Counts a run that gave what one in the page alone gave.
+    pub fn alone(&mut self, given: &Given) {
+        self.class(ALONE, STOPS[given.numbers.kind as usize]);
     }
 
     /// Counts a replacement by its answer.
@@ -230,23 +216,14 @@ impl Tally {
         }
     }
 
-    /// Counts a series of so many calls by the page that it began in and what the last gave.
-    pub fn image_series(&mut self, calls: usize, page: usize, given: &Given) {
+    /// Counts a series of so many calls by what the last gave.
+    pub fn image_series(&mut self, calls: usize, given: &Given) {
         if calls > 1 {
             self.class(MET, ALSO_MET[1]);
         }
         if calls > 1 && matches!(given.numbers.kind, 1 | 2) {
             self.class(MET, ALSO_MET[2]);
         }
-        let ended = record_in(&given.record).map(|record| record.page.into());
-        if calls > 1 && ended != Some(page) {
-            self.class(MET, ALSO_MET[7]);
-        }
-    }
-
-    /// Counts a run that was made again with a larger budget.
-    pub fn image_larger(&mut self, given: &Given) {
-        self.class(LARGER, STOPS[given.numbers.kind as usize]);
     }
 
     /// Counts a refused call in a series.

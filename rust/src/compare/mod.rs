@@ -5,21 +5,16 @@
 //! - [`short`]: packing and unpacking on both sides, with the way back.
 //! - [`profiles`], [`windows`], [`refusals`], [`fields`], [`packing`], [`unpacking`],
 //!   [`syscalls`], [`exits`], [`sharing`], [`slices`], [`forms`], [`reader`], [`steps`],
-//!   [`pages`], [`images`], [`image_refusals`], [`links`], [`calling`], [`rings`],
-//!   [`fixed`]: the parts. Each stops at its first difference.
-//! - [`records`], [`numbers`], [`cases`], [`image_cases`], [`link_cases`], [`link_calls`],
-//!   [`link_returns`], [`calling_pages`], [`busy`], [`codes`], [`sets`], [`ranges`],
-//!   [`shapes`] and [`lacking`]: what the parts hand over; [`reach`]: what an instruction
-//!   accesses; [`callers`]: whose frames stand; [`calls`] and [`image_runs`]: what several
-//!   parts call.
-//! - [`tally`], [`short_tally`], [`slices_tally`], [`windows_tally`], [`images_tally`] and
-//!   [`links_tally`]: what was met; a class that was not is a failure too, and so is an
-//!   answer that its call can't give.
+//!   [`pages`], [`images`], [`image_refusals`], [`fixed`]: the parts. Each stops at its
+//!   first difference.
+//! - [`records`], [`numbers`], [`cases`], [`image_cases`], [`busy`], [`codes`], [`sets`],
+//!   [`ranges`], [`shapes`] and [`lacking`]: what the parts hand over; [`reach`]: what an
+//!   instruction accesses; [`calls`]: what several parts call.
+//! - [`tally`], [`short_tally`], [`slices_tally`], [`windows_tally`] and [`images_tally`]:
+//!   what was met; a class that was not is a failure too, and so is an answer that its call
+//!   can't give.
 
 pub mod busy;
-pub mod callers;
-pub mod calling;
-pub mod calling_pages;
 pub mod calls;
 pub mod cases;
 pub mod codes;
@@ -29,16 +24,10 @@ pub mod fixed;
 pub mod forms;
 pub mod image_cases;
 pub mod image_refusals;
-pub mod image_runs;
 pub mod image_sides;
 pub mod images;
 pub mod images_tally;
 pub mod lacking;
-pub mod link_calls;
-pub mod link_cases;
-pub mod link_returns;
-pub mod links;
-pub mod links_tally;
 pub mod numbers;
 pub mod packing;
 pub mod pages;
@@ -49,7 +38,6 @@ pub mod reader;
 pub mod records;
 pub mod refusals;
 pub mod report;
-pub mod rings;
 pub mod sets;
 pub mod shapes;
 pub mod sharing;
@@ -84,7 +72,7 @@ type Part = (&'static str, fn(&mut Comparison) -> Same);
 
 /// The parts that meet most kinds soonest come first: a mistake is found there in
 /// a moment.
-const PARTS: [Part; 20] = [
+const PARTS: [Part; 17] = [
     ("profiles", profiles::compare),
     ("windows", windows::compare),
     ("refusals", refusals::compare),
@@ -101,9 +89,6 @@ const PARTS: [Part; 20] = [
     ("pages", pages::compare),
     ("images", images::compare),
     ("image-refusals", image_refusals::compare),
-    ("links", links::compare),
-    ("calling", calling::compare),
-    ("rings", rings::compare),
     ("fixed", fixed::compare),
 ];
 

@@ -16,8 +16,6 @@ pub struct Numbers {
     pub offset: u64,
     pub place: u64,
     pub flags: u64,
-    pub fp: u64,
-    pub page: u64,
 }
 
 impl Numbers {
@@ -28,7 +26,7 @@ impl Numbers {
         if self.kind != 0 {
             all.push(self.offset);
         }
-        all.extend([self.place, self.flags, self.fp, self.page]);
+        all.extend([self.place, self.flags]);
         all
     }
 
@@ -59,21 +57,13 @@ impl Numbers {
                 (37, self.offset < offsets),
                 (41, self.place <= 127),
                 (43, self.flags <= 15),
-                (44, self.has_frame()),
-                (48, self.page <= 4095),
             ]);
         let mut failing = fields.filter(|(_, fits)| !fits);
         let first = failing.next();
         first.map_or(Told::ACCEPTED, |(position, _)| Told::at(7, position))
     }
 
-    /// Whether FP is 0 or the first of eight words in RAM.
-    fn has_frame(&self) -> bool {
-        let (aligned, last) = (self.fp.is_multiple_of(4), self.fp + 28);
-        self.fp == 0 || (aligned && self.fp >= 0x1_0000 && last < 0x1_8000)
-    }
-
-    /// The 50 bytes, if they are in range.
+    /// The 44 bytes, if they are in range.
     pub fn stored(&self) -> Vec<u8> {
         let sp = 0x1_8000 - 4 * self.sp;
         let offset = if self.kind == 0 { 0 } else { self.offset };
@@ -84,8 +74,6 @@ impl Numbers {
         bytes.push(self.kind as u8);
         bytes.extend(&offset.to_le_bytes()[..4]);
         bytes.extend([self.place as u8, 0, self.flags as u8]);
-        bytes.extend(&self.fp.to_le_bytes()[..4]);
-        bytes.extend(&self.page.to_le_bytes()[..2]);
         bytes
     }
 }
@@ -141,13 +129,11 @@ fn spread(random: &mut Random, most: &[u64], least_kind: u64, total: usize) -> N
         offset: if least_kind == 0 { 0 } else { next() },
         place: next(),
         flags: next(),
-        fp: next(),
-        page: next(),
     }
 }
 
-/// The last values in range: r0 to r7, then those of SP, a kind and its offset, place,
-/// flags, an FP of no frame and page.
+/// The last values in range: r0 to r7, then those of SP, a kind and its offset, place
+/// and flags.
 fn last_in_range(kind: u64) -> Vec<u64> {
     let mut most = vec![(1 << 32) - 1; 8];
     most.extend([8192, kind]);
@@ -156,37 +142,25 @@ fn last_in_range(kind: u64) -> Vec<u64> {
         1 => most.push((1 << 20) - 1),
         _ => most.push((1 << 24) - 1),
     }
-    most.extend([127, 15, 0, 4095]);
+    most.extend([127, 15]);
     most
 }
 
-/// Numbers in range whose form has so many bytes, 14 to 54. An FP of a frame takes three
-/// groups, and none takes one.
+/// Numbers in range whose form has so many bytes, 12 to 49.
 pub fn in_range(random: &mut Random, length: usize) -> Numbers {
-    let more = match length {
-        ..=15 => 0,
-        53.. => 2,
-        _ => random.pick(&[0, 2]),
-    };
-    let kind = match length - more {
-        14 => 0,
-        15..=48 => random.below(3) as u64,
-        49..=51 => random.between(1, 2) as u64,
+    let kind = match length {
+        12 => 0,
+        13..=45 => random.below(3) as u64,
+        46..=48 => random.between(1, 2) as u64,
         _ => 2,
     };
-    let mut numbers = spread(random, &last_in_range(kind), kind, length - more);
-    if more > 0 {
-        let any = random.below(8185);
-        let words = random.pick(&[0, 8184, any]);
-        numbers.fp = 0x1_0000 + 4 * words as u64;
-    }
-    numbers
+    spread(random, &last_in_range(kind), kind, length)
 }
 
-/// Numbers of at most five groups whose form has so many bytes, 14 to 75.
+/// Numbers of at most five groups whose form has so many bytes, 12 to 65.
 pub fn any(random: &mut Random, length: usize) -> Numbers {
-    let without = length == 14 || (length <= 66 && random.chance(20));
-    let mut most = vec![PAST - 1; if without { 14 } else { 15 }];
+    let without = length == 12 || (length <= 56 && random.chance(20));
+    let mut most = vec![PAST - 1; if without { 12 } else { 13 }];
     if without {
         most[9] = 0;
     }

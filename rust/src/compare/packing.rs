@@ -1,4 +1,4 @@
-//! Packing: every field of the 50-byte form at and off its edges, every byte of some
+//! Packing: every field of the 44-byte form at and off its edges, every byte of some
 //! forms with every value, forms of every other length, and rooms of every length up
 //! to the short form's and a little past it. What is told, and what is written, is
 //! also known from the papers, without either side.
@@ -90,7 +90,7 @@ fn damaged(comparison: &mut Comparison) -> Same {
     Ok(())
 }
 
-/// Bytes of every length up to 80, in range where they are 50, out of range and any:
+/// Bytes of every length up to 80, in range where they are 44, out of range and any:
 /// the length is told before the range and the room.
 fn lengths(comparison: &mut Comparison, random: &mut Random) -> Same {
     for length in 0..=80 {

@@ -3,7 +3,7 @@
 use crate::random::Random;
 use crate::second::arith::Flags;
 use crate::second::memory::{EXTERNAL_START, RAM_SIZE};
-use crate::second::record::{Base, Record, FRAME, LAST_PAGE, RAM_END, RAM_OFFSETS, RAM_START};
+use crate::second::record::{Base, Record, RAM_END, RAM_OFFSETS, RAM_START};
 
 /// Values of registers: edges of shifts, of signs, of RAM and of external data.
 pub const EDGES: [u32; 40] = [
@@ -153,35 +153,6 @@ pub fn flags(number: usize) -> Flags {
     }
 }
 
-/// An FP that passes the frame test: often none, or at an end of RAM.
-pub fn frame(random: &mut Random) -> u32 {
-    let last = RAM_END - FRAME;
-    match random.below(6) {
-        0 | 1 => 0,
-        2 => RAM_START,
-        3 => last,
-        _ => RAM_START + 4 * random.below(1 + (last - RAM_START) as usize / 4) as u32,
-    }
-}
-
-/// A page that a stored form may hold.
-fn page(random: &mut Random) -> u16 {
-    match random.below(4) {
-        0 => 0,
-        1 => LAST_PAGE,
-        _ => random.field(1 + usize::from(LAST_PAGE)),
-    }
-}
-
-/// The record with any FP and page, which no run on a lone page looks at.
-pub fn with_any_link(random: &mut Random, record: Record) -> Record {
-    Record {
-        fp: random.bits() >> random.below(32),
-        page: random.halfword(),
-        ..record
-    }
-}
-
 /// A fit record, at place 0.
 pub fn fit(random: &mut Random, external: usize) -> Record {
     let mut registers = [0; 8];
@@ -194,8 +165,6 @@ pub fn fit(random: &mut Random, external: usize) -> Record {
         flags: flags(random.below(16)),
         place: 0,
         base: base(random, external),
-        fp: frame(random),
-        page: page(random),
     }
 }
 
@@ -207,26 +176,6 @@ pub const SP_UNALIGNED: [u32; 6] = [0x1_0001, 0x1_0002, 0x1_0003, 0x1_7FFD, 0x1_
 pub const SP_OUT_UNALIGNED: [u32; 6] = [0xFFFE, 0xFFFF, 0x1_8001, 0x1_8002, 1, u32::MAX];
 /// RAM offsets out of range.
 pub const RAM_OUT: [u32; 5] = [RAM_OFFSETS, RAM_OFFSETS + 1, 1 << 24, 1 << 31, u32::MAX];
-
-/// FPs that fail the frame test: no multiple of 4, below RAM, or with words past it.
-pub const FP_OUT: [u32; 14] = [
-    1,
-    2,
-    4,
-    0x20,
-    0xFFE0,
-    0xFFFC,
-    0x1_0001,
-    0x1_0002,
-    0x1_7FDF,
-    0x1_7FE2,
-    0x1_7FE4,
-    0x1_8000,
-    0x8001_0000,
-    0xFFFF_FFFC,
-];
-/// Pages that no stored form may hold; cut to 12 bits, each would be one.
-pub const PAGE_OUT: [u16; 5] = [4096, 4097, 0x1FFF, 0x8000, 0xFFFF];
 
 /// An external offset that is not below so much data's length.
 pub fn past_external(random: &mut Random, external: usize) -> u32 {
@@ -258,7 +207,7 @@ pub const SPOILS: [&[u8]; 7] = [&[], &[36], &[37], &[43], &[36, 37], &[36, 43], 
 /// The bytes spoilt at these positions.
 pub fn spoil(random: &mut Random, bytes: &mut Vec<u8>, positions: &[u8]) {
     if positions.is_empty() {
-        bytes.resize(random.pick(&[0, 1, 36, 44, 49, 51, 88, 100]), 0);
+        bytes.resize(random.pick(&[0, 1, 36, 43, 45, 88, 100]), 0);
     }
     if positions.contains(&37) {
         bytes[36] = 0;

@@ -90,7 +90,7 @@ pub fn image_runs(
     sides: [(&Given, &[u8]); 2],
 ) -> String {
     let stored = &images.second;
-    let page = stored.bytes.chunks(256).nth(handed.page());
+    let page = stored.bytes.chunks(256).nth(handed.number as usize);
     let alone = Code {
         page: page.unwrap_or_default(),
         never_return: handed.platform.never_return,
@@ -99,7 +99,7 @@ pub fn image_runs(
     let index = &stored.index[..stored.index.len().min(SHORT)];
     format!(
         "page {} of an image of {} bytes, index ({} bytes): {}\n{}",
-        handed.page(),
+        handed.number,
         stored.bytes.len(),
         stored.index.len(),
         show::bytes(index),

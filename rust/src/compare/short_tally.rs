@@ -4,20 +4,19 @@ use super::short::Packed;
 use super::sides::Told;
 use super::tally::Tally;
 use crate::second::groups;
-use crate::second::record::{Fields, AT_FLAGS, AT_KIND, AT_OFFSET, AT_PAGE, AT_PLACE, STORED};
+use crate::second::record::{Fields, AT_FLAGS, AT_KIND, AT_OFFSET, AT_PLACE, STORED};
 use crate::second::rules::Rules;
 use crate::second::short::{Flaw, Number, Reading, ShortRules, FIELDS, LEAST, MOST};
 
 /// The fields in the short form's order, by name.
-const NAMES: [&str; 15] = [
-    "r0", "r1", "r2", "r3", "r4", "r5", "r6", "r7", "SP", "kind", "offset", "place", "flags", "FP",
-    "page",
+const NAMES: [&str; 13] = [
+    "r0", "r1", "r2", "r3", "r4", "r5", "r6", "r7", "SP", "kind", "offset", "place", "flags",
 ];
 /// The lengths of accepted forms.
 const LENGTHS: [&str; MOST - LEAST + 1] = [
-    "14", "15", "16", "17", "18", "19", "20", "21", "22", "23", "24", "25", "26", "27", "28", "29",
-    "30", "31", "32", "33", "34", "35", "36", "37", "38", "39", "40", "41", "42", "43", "44", "45",
-    "46", "47", "48", "49", "50", "51", "52", "53", "54",
+    "12", "13", "14", "15", "16", "17", "18", "19", "20", "21", "22", "23", "24", "25", "26", "27",
+    "28", "29", "30", "31", "32", "33", "34", "35", "36", "37", "38", "39", "40", "41", "42", "43",
+    "44", "45", "46", "47", "48", "49",
 ];
 /// Any other.
 const ANOTHER: &str = "another";
@@ -30,7 +29,7 @@ pub const NEVER: [(&str, &str); 2] = [(PACKED, ANOTHER), (UNPACKED, ANOTHER)];
 const NOT_SHORTEST: &str = "short form: not shortest";
 const TOO_MANY: &str = "short form: more than five groups";
 const CUT_OFF: &str = "short form: cut off";
-/// Numbers that no field of the 50 bytes holds, by the field that is told.
+/// Numbers that no field of the 44 bytes holds, by the field that is told.
 const PAST_FIELD: &str = "short form: past its field";
 const BY_FIELD: [&str; 4] = [NOT_SHORTEST, TOO_MANY, CUT_OFF, PAST_FIELD];
 
@@ -48,7 +47,7 @@ const UNPACKING: &str = "short form: unpacking";
 const UNPACKING_MET: [&str; 15] = [
     "no bytes",
     "followed by bytes",
-    "75 bytes well grouped",
+    "65 bytes well grouped",
     "none without offset",
     "RAM with offset",
     "external with offset",
@@ -94,13 +93,13 @@ fn length_name(length: usize) -> &'static str {
 fn is_past(number: &Number) -> bool {
     let bits = match number.position {
         AT_KIND | AT_FLAGS => 8,
-        AT_PLACE | AT_PAGE => 16,
+        AT_PLACE => 16,
         _ => 32,
     };
     number.value >> bits > 0
 }
 
-/// The length of the short form of 50 bytes in range.
+/// The length of the short form of 44 bytes in range.
 fn form_length(stored: &[u8]) -> usize {
     let rules = Rules::RIGHT;
     (rules.short.pack)(rules, stored, &mut [0; MOST]).unwrap_or(0)
@@ -155,8 +154,8 @@ impl Tally {
         if told == Told::ACCEPTED {
             self.class(UNPACKED, length_name(form.len()));
         }
-        if form.len() == 75 {
-            self.class(UNPACKING, "75 bytes well grouped");
+        if form.len() == 65 {
+            self.class(UNPACKING, "65 bytes well grouped");
         }
         let met = match (reading.value(AT_KIND), reading.value(AT_OFFSET)) {
             (Some(0), None) => "none without offset",

@@ -19,7 +19,7 @@ use crate::second::window::Window;
 
 /// The library's own number: the bytes hold no record.
 pub const NO_RECORD: u32 = 255;
-/// 01's refusal of a form or a room that is not of 50 bytes.
+/// 01's refusal of a form or a room that is not of 44 bytes.
 const FORM_LENGTH: Told = Told::plain(6);
 
 /// A code, and the position that comes back beside it: 0 where none is carried.

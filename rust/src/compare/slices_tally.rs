@@ -4,7 +4,7 @@ use super::codes;
 use super::sets;
 use super::sides::{record_in, Given};
 use super::slices::{sum, Slice};
-use super::tally::{Tally, BASES, LARGER, LONE_FAULTS, PLACES, SLICED, STOPS};
+use super::tally::{Tally, BASES, FAULTS, LARGER, PLACES, SLICED, STOPS};
 use crate::second::page::Code;
 use crate::second::profile::{FULL, SMALL};
 use crate::second::record::Base;
@@ -43,7 +43,7 @@ pub fn required() -> impl Iterator<Item = (&'static str, &'static str)> {
     let made = NUMBERS.map(|name| (MADE, name)).into_iter();
     made.chain(otherwise.map(|name| (FIRST_STOPS, name)))
         .chain([budget, service, literal, fault].map(|name| (LATER_STOPS, name)))
-        .chain(LONE_FAULTS.map(|name| (LATER_FAULTS, name)))
+        .chain(FAULTS.map(|name| (LATER_FAULTS, name)))
         .chain(STANDS.map(|name| (EMPTY, name)))
         .chain(sets::KINDS.map(|name| (SETS, name)))
         .chain([FULL, SMALL].map(|profile| (PROFILES, codes::kind(profile))))
@@ -51,7 +51,7 @@ pub fn required() -> impl Iterator<Item = (&'static str, &'static str)> {
         .chain(PLACES.map(|name| (CUT_PLACES, name)))
         .chain(SLICES_MET.map(|name| (SLICES, name)))
         .chain(otherwise.map(|name| (LARGER_STOPS, name)))
-        .chain(LONE_FAULTS.map(|name| (LARGER_FAULTS, name)))
+        .chain(FAULTS.map(|name| (LARGER_FAULTS, name)))
 }
 
 impl Tally {

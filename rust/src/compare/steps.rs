@@ -55,9 +55,6 @@ fn random_step(
     if random.chance(1) {
         case.record = records::unfit(&mut random, &case.record, external.len());
     }
-    if random.chance(30) {
-        case.record = records::with_any_link(&mut random, case.record);
-    }
     let mut record = stored_bytes(&case.record);
     if random.below(200) == 0 {
         let positions = random.pick(&records::SPOILS);

@@ -8,7 +8,6 @@ use marshbodkin::raw::Answer as Numbers;
 use super::codes;
 use super::image_sides::{BUILD, REPLACE, RUN, STEP};
 use super::images_tally;
-use super::links_tally;
 use super::sets;
 use super::short_tally;
 use super::sides::{record_in, Given, Handed, Told, NO_RECORD};
@@ -63,7 +62,7 @@ const ANSWERS: [(&str, &[Told]); 15] = [
     (RUN, &images_tally::OF_A_RUN),
 ];
 /// 7 at every field that can fail.
-pub const OF_A_FORM: [Told; 9] = [
+pub const OF_A_FORM: [Told; 7] = [
     Told::ACCEPTED,
     Told::plain(6),
     Told::at(7, 32),
@@ -71,11 +70,9 @@ pub const OF_A_FORM: [Told; 9] = [
     Told::at(7, 37),
     Told::at(7, 41),
     Told::at(7, 43),
-    Told::at(7, 44),
-    Told::at(7, 48),
 ];
 /// The same, and 10.
-const OF_PACKING: [Told; 10] = [
+const OF_PACKING: [Told; 8] = [
     Told::ACCEPTED,
     Told::plain(6),
     Told::at(7, 32),
@@ -83,12 +80,10 @@ const OF_PACKING: [Told; 10] = [
     Told::at(7, 37),
     Told::at(7, 41),
     Told::at(7, 43),
-    Told::at(7, 44),
-    Told::at(7, 48),
     Told::plain(10),
 ];
 /// 7 at every field.
-pub const OF_UNPACKING: [Told; 18] = [
+pub const OF_UNPACKING: [Told; 16] = [
     Told::ACCEPTED,
     Told::plain(6),
     Told::at(7, 0),
@@ -104,8 +99,6 @@ pub const OF_UNPACKING: [Told; 18] = [
     Told::at(7, 37),
     Told::at(7, 41),
     Told::at(7, 43),
-    Told::at(7, 44),
-    Told::at(7, 48),
     Told::plain(9),
 ];
 /// 255 by a wrong length, and at every field that no record has.
@@ -130,11 +123,7 @@ const OF_A_RUN: [Told; 15] = [
 pub const STOPS: [&str; 6] = ["budget", "service", "literal", "fault", MARK, "refused"];
 /// The kind that is never met.
 pub const MARK: &str = "mark";
-/// All faults, and those that a lone page can have.
-pub const FAULTS: [&str; 10] = ["1", "2", "3", "4", "5", "6", "7", "8", "9", "10"];
-pub const LONE_FAULTS: [&str; 7] = ["1", "2", "3", "4", "5", "6", "7"];
-/// Those of calls and returns in an image.
-const LINK_FAULTS: [&str; 3] = ["8", "9", "10"];
+pub const FAULTS: [&str; 7] = ["1", "2", "3", "4", "5", "6", "7"];
 /// Those of loads and stores by r8 and r9, and the rest.
 const FAULTS_OF_BASES: [&str; 3] = ["1", "2", "3"];
 const OTHER_FAULTS: [&str; 4] = ["4", "5", "6", "7"];
@@ -324,11 +313,9 @@ impl Tally {
         }
         let never = lacking().map(|name| (SMALL_EXECUTED, name));
         let never = never.chain(FAULTS_OF_BASES.map(|name| (SMALL_FAULTS, name)));
-        let never = never.chain(LINK_FAULTS.map(|name| ("faults", name)));
         let never = never.chain(short_tally::NEVER);
         let never = never.chain(windows_tally::never());
         let never = never.chain(images_tally::never());
-        let never = never.chain(links_tally::never());
         let met = never.filter(|&(group, name)| self.met(group, name) > 0);
         failures.extend(met.map(|(group, name)| format!("{group}: {name} was met")));
         let orders = images_tally::orders().filter(|order| !self.orders.contains_key(order));
@@ -535,7 +522,7 @@ fn required() -> Vec<(&'static str, &'static str)> {
     let words = WORDS.iter().chain(&BAD_WORDS).map(|row| row.name);
     stops
         .map(|&name| ("stops", name))
-        .chain(LONE_FAULTS.map(|name| ("faults", name)))
+        .chain(FAULTS.map(|name| ("faults", name)))
         .chain(READINGS.map(|name| ("readings", name)))
         .chain(BASES.map(|name| ("bases", name)))
         .chain(PLACES.map(|name| ("places", name)))
@@ -556,7 +543,6 @@ fn required() -> Vec<(&'static str, &'static str)> {
         .chain(slices_tally::required())
         .chain(windows_tally::required())
         .chain(images_tally::required())
-        .chain(links_tally::required())
         .collect()
 }
 

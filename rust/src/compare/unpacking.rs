@@ -16,7 +16,7 @@ use crate::show;
 /// How often each length is met.
 const TIMES: usize = 60;
 /// Lengths of rooms that are refused.
-const ROOMS: [usize; 6] = [0, 14, 44, 49, 51, 88];
+const ROOMS: [usize; 5] = [0, 12, 43, 45, 88];
 
 const WORDS: u64 = 1 << 32;
 /// Registers at the edges of groups, and three past their field.
@@ -97,40 +97,7 @@ const BASES: [(u64, u64); 40] = [
 const PLACES: [u64; 9] = [0, 127, 128, 255, 256, 65_535, 65_536, WORDS, PAST - 1];
 const FLAGS: [u64; 8] = [0, 15, 16, 255, 256, 257, WORDS, PAST - 1];
 
-/// FPs without a frame, with one, with none that lies in RAM, and past their field; cut to a
-/// word, some would do.
-const FPS: [u64; 15] = [
-    0,
-    0x1_0000,
-    0x1_0004,
-    0x1_7FE0,
-    4,
-    0xFFFC,
-    0x1_0001,
-    0x1_0002,
-    0x1_7FE1,
-    0x1_7FE4,
-    0x1_8000,
-    WORDS - 4,
-    WORDS,
-    WORDS + 0x1_0000,
-    PAST - 1,
-];
-/// Pages; cut to 12 or 16 bits, the last ones would do.
-const PAGES: [u64; 10] = [
-    0,
-    127,
-    128,
-    4095,
-    4096,
-    4097,
-    65_535,
-    65_536,
-    WORDS,
-    PAST - 1,
-];
-
-/// How many choices of all but the registers, FP and page there are.
+/// How many choices of all but the registers there are.
 pub const ALL: usize = SPS.len() * BASES.len() * PLACES.len() * FLAGS.len();
 
 /// The choice of a number; in every fourth a register is past its field.
@@ -149,8 +116,6 @@ pub fn choice(random: &mut Random, number: usize) -> Numbers {
         offset: BASES[base].1,
         place: PLACES[place],
         flags: FLAGS[flags],
-        fp: random.pick(&FPS),
-        page: random.pick(&PAGES),
     }
 }
 
@@ -162,7 +127,6 @@ pub fn compare(comparison: &mut Comparison) -> Same {
         one_choice(comparison, &mut random, &numbers)
             .map_err(|found| format!("{numbers:?}: {found}"))?;
     }
-    links(comparison, &mut random)?;
     for numbers in samples() {
         let form = numbers.bytes();
         damaged(comparison, &mut random, &form)
@@ -170,22 +134,6 @@ pub fn compare(comparison: &mut Comparison) -> Same {
             .map_err(|found| format!("from {}: {found}", show::bytes(&form)))?;
     }
     lengths(comparison, &mut random)
-}
-
-/// Every FP with every page, all before them in range.
-fn links(comparison: &mut Comparison, random: &mut Random) -> Same {
-    for (fp, page) in FPS.into_iter().flat_map(|fp| PAGES.map(|page| (fp, page))) {
-        let length = random.between(14, 54);
-        let numbers = numbers::in_range(random, length);
-        let numbers = Numbers {
-            fp,
-            page,
-            ..numbers
-        };
-        one_choice(comparison, random, &numbers)
-            .map_err(|found| format!("{numbers:?}: {found}"))?;
-    }
-    Ok(())
 }
 
 /// Numbers well grouped, spoilt, and for rooms of other lengths.
@@ -198,7 +146,7 @@ fn one_choice(comparison: &mut Comparison, random: &mut Random, numbers: &Number
     other_room(comparison, &spoilt, room)
 }
 
-/// Well grouped numbers: the first that fails is told, and else the 50 bytes are
+/// Well grouped numbers: the first that fails is told, and else the 44 bytes are
 /// written.
 fn well_grouped(comparison: &mut Comparison, numbers: &Numbers) -> Same {
     let room = [FILLING; STORED];
@@ -258,7 +206,7 @@ pub fn spoil(random: &mut Random, numbers: &Numbers) -> Vec<u8> {
     groups.concat()
 }
 
-/// Forms of 14, 54 and 75 bytes, with and without an offset, in range and not.
+/// Forms of 12, 49 and 65 bytes, with and without an offset, in range and not.
 fn samples() -> [Numbers; 9] {
     let zero = Numbers::default();
     let numbers = |sp, kind, offset, place, flags| Numbers {
@@ -268,20 +216,15 @@ fn samples() -> [Numbers; 9] {
         offset,
         place,
         flags,
-        fp: 0x1_0000 + 4 * sp.min(5),
-        page: 128,
     };
     [
         zero,
         Numbers {
             registers: [WORDS - 1; 8],
-            page: 4095,
             ..numbers(8192, 2, 0xFF_FFFF, 127, 15)
         },
         Numbers {
             registers: [PAST - 1; 8],
-            fp: PAST - 1,
-            page: PAST - 1,
             ..numbers(PAST - 1, PAST - 1, PAST - 1, PAST - 1, PAST - 1)
         },
         numbers(8191, 1, 0xF_FFFF, 64, 8),
@@ -353,7 +296,7 @@ fn lengths(comparison: &mut Comparison, random: &mut Random) -> Same {
         for form in [any, single, small] {
             comparison.unpack(&form, &[FILLING; STORED])?;
         }
-        if (14..=54).contains(&length) {
+        if (12..=49).contains(&length) {
             let numbers = numbers::in_range(random, length);
             well_grouped(comparison, &numbers)?;
             let form = numbers.bytes();
@@ -363,8 +306,8 @@ fn lengths(comparison: &mut Comparison, random: &mut Random) -> Same {
             }
         }
         match length {
-            14..=75 => well_grouped(comparison, &numbers::any(random, length))?,
-            76.. => not_grouped(comparison, &too_long(random, length))?,
+            12..=65 => well_grouped(comparison, &numbers::any(random, length))?,
+            66.. => not_grouped(comparison, &too_long(random, length))?,
             _ => {}
         }
     }
@@ -373,7 +316,7 @@ fn lengths(comparison: &mut Comparison, random: &mut Random) -> Same {
 
 /// A form with more numbers behind it, so many bytes in all.
 fn too_long(random: &mut Random, length: usize) -> Vec<u8> {
-    let first = random.between(14, 70);
+    let first = random.between(12, 60);
     let mut form = numbers::any(random, first).bytes();
     while form.len() < length {
         let most = (length - form.len()).min(5);

@@ -1,13 +1,12 @@
 //! Mistakes about images and their indexes.
 
 use crate::second::image::{
-    count_byte, fill, put, unfit, Asked, ImageRules, Lent, Test, BYTES, IMAGE, INDEX, LENGTH,
-    MOST_PAGES, NUMBER, PAGE, PROFILE, RECORD,
+    count_byte, fill, put, Asked, ImageRules, Lent, Test, BYTES, IMAGE, INDEX, LENGTH, MOST_PAGES,
+    NUMBER, PAGE, PROFILE,
 };
 use crate::second::memory::RAM_SIZE;
 use crate::second::page::{Code, NeverReturn};
 use crate::second::profile::FULL;
-use crate::second::record::{is_frame, Record};
 use crate::second::rules::Rules;
 
 const RIGHT: ImageRules = ImageRules::RIGHT;
@@ -33,7 +32,7 @@ macro_rules! with_image {
         ImageRules {
             build: &[PROFILE, $test, INDEX],
             replace: &[PROFILE, $test, NUMBER, INDEX, LENGTH],
-            run: &[PROFILE, $test, RECORD, NUMBER, INDEX, BYTES],
+            run: &[PROFILE, $test, NUMBER, INDEX, BYTES],
             ..RIGHT
         }
     };
@@ -45,14 +44,14 @@ macro_rules! with_index {
         ImageRules {
             build: &[PROFILE, IMAGE, $test],
             replace: &[PROFILE, IMAGE, NUMBER, $test, LENGTH],
-            run: &[PROFILE, IMAGE, RECORD, NUMBER, $test, BYTES],
+            run: &[PROFILE, IMAGE, NUMBER, $test, BYTES],
             ..RIGHT
         }
     };
 }
 
 /// Each mistake's name, and the rules with it.
-pub const MISTAKES: [(&str, ImageRules); 39] = [
+pub const MISTAKES: [(&str, ImageRules); 33] = [
     ("build-12-before-18", build(&[IMAGE, PROFILE, INDEX])),
     ("build-14-before-12", build(&[PROFILE, INDEX, IMAGE])),
     (
@@ -77,79 +76,43 @@ pub const MISTAKES: [(&str, ImageRules); 39] = [
     ),
     (
         "run-12-before-18",
-        run(&[IMAGE, PROFILE, RECORD, NUMBER, INDEX, BYTES]),
+        run(&[IMAGE, PROFILE, NUMBER, INDEX, BYTES]),
     ),
     (
         "run-13-before-12",
-        run(&[PROFILE, NUMBER, IMAGE, RECORD, INDEX, BYTES]),
+        run(&[PROFILE, NUMBER, IMAGE, INDEX, BYTES]),
     ),
     (
         "run-14-before-13",
-        run(&[PROFILE, IMAGE, RECORD, INDEX, NUMBER, BYTES]),
+        run(&[PROFILE, IMAGE, INDEX, NUMBER, BYTES]),
     ),
     (
         "run-21-before-14",
-        run(&[PROFILE, IMAGE, RECORD, NUMBER, BYTES, INDEX]),
+        run(&[PROFILE, IMAGE, NUMBER, BYTES, INDEX]),
     ),
     (
         "run-2-before-21",
-        run(&[PROFILE, IMAGE, RECORD, NUMBER, INDEX, RAM, BYTES]),
-    ),
-    (
-        "run-255-before-12",
-        run(&[PROFILE, RECORD, IMAGE, NUMBER, INDEX, BYTES]),
-    ),
-    (
-        "run-13-before-255",
-        run(&[PROFILE, IMAGE, NUMBER, RECORD, INDEX, BYTES]),
-    ),
-    // As on a lone page: where no test tells them, bytes that hold no record are told there.
-    (
-        "run-255-after-20",
-        run(&[PROFILE, IMAGE, NUMBER, INDEX, BYTES]),
-    ),
-    (
-        "run-45-before-44",
-        ImageRules {
-            unfit: fp_before_external,
-            ..RIGHT
-        },
-    ),
-    (
-        "run-5-before-45",
-        ImageRules {
-            unfit: place_before_fp,
-            ..RIGHT
-        },
-    ),
-    (
-        "run-without-45",
-        ImageRules {
-            unfit: |rules, record, external, place_is_fit| {
-                (rules.unfit)(record, external, place_is_fit)
-            },
-            ..RIGHT
-        },
+        run(&[PROFILE, IMAGE, NUMBER, INDEX, RAM, BYTES]),
     ),
     (
         "own-byte-unchecked",
-        run(&[PROFILE, IMAGE, RECORD, NUMBER, INDEX, OTHER_BYTES]),
+        run(&[PROFILE, IMAGE, NUMBER, INDEX, OTHER_BYTES]),
     ),
     (
         "own-byte-alone",
-        run(&[PROFILE, IMAGE, RECORD, NUMBER, INDEX, OWN_BYTE]),
+        run(&[PROFILE, IMAGE, NUMBER, INDEX, OWN_BYTE]),
     ),
     (
         "last-byte-unchecked",
-        run(&[PROFILE, IMAGE, RECORD, NUMBER, INDEX, ALL_BUT_LAST]),
+        run(&[PROFILE, IMAGE, NUMBER, INDEX, ALL_BUT_LAST]),
     ),
     (
         "first-byte-unchecked",
-        run(&[PROFILE, IMAGE, RECORD, NUMBER, INDEX, ALL_BUT_FIRST]),
+        run(&[PROFILE, IMAGE, NUMBER, INDEX, ALL_BUT_FIRST]),
     ),
     (
         "byte-above-accepted",
-        run(&[PROFILE, IMAGE, RECORD, NUMBER, INDEX, BYTE_BELOW]),
+        run(&[PROFILE, IMAGE, NUMBER, INDEX, BYTE_BELOW]),
     ),
     (
         "byte-of-page-before",
@@ -252,22 +215,6 @@ pub const MISTAKES: [(&str, ImageRules); 39] = [
         },
     ),
 ];
-
-/// FP is tested before an external offset.
-fn fp_before_external(rules: Rules, record: &Record, external: usize, fits: bool) -> Option<u8> {
-    match unfit(rules, record, external, fits) {
-        Some(44) if !is_frame(record.fp) => Some(45),
-        right => right,
-    }
-}
-
-/// The place is tested before FP.
-fn place_before_fp(rules: Rules, record: &Record, external: usize, fits: bool) -> Option<u8> {
-    match unfit(rules, record, external, fits) {
-        Some(45) if !fits => Some(5),
-        right => right,
-    }
-}
 
 /// RAM's length, which a lone page's tests have too.
 const RAM: Test = (2, |asked| asked.ram != RAM_SIZE);

@@ -3,9 +3,7 @@
 use std::ops::Range;
 
 use crate::second::groups::{self, first, joined, Flaw, Taken, MORE, MOST_GROUPS};
-use crate::second::record::{
-    is_frame, AT_FLAGS, AT_FP, AT_KIND, AT_OFFSET, AT_PAGE, AT_PLACE, AT_SP, RAM_END, RAM_START,
-};
+use crate::second::record::{AT_FLAGS, AT_KIND, AT_OFFSET, AT_PLACE, AT_SP, RAM_END, RAM_START};
 use crate::second::refusal::Refusal;
 use crate::second::rules::Rules;
 use crate::second::short::{Number, Reading, ShortRules, FIELDS, LEAST, MOST};
@@ -28,7 +26,7 @@ const fn put(put: fn(&[u8], &mut [u8]) -> Result<usize, Refusal>) -> ShortRules 
 }
 
 /// Each mistake's name, and the rules with it.
-pub const MISTAKES: [(&str, ShortRules); 28] = [
+pub const MISTAKES: [(&str, ShortRules); 23] = [
     (
         "groups-of-eight",
         ShortRules {
@@ -77,22 +75,6 @@ pub const MISTAKES: [(&str, ShortRules); 28] = [
             ..RIGHT
         },
     ),
-    (
-        "fp-in-words",
-        ShortRules {
-            fp_number: |fp| u64::from(fp) / 4,
-            fp_of: |number| (RIGHT.fp_of)(number.checked_mul(4)?),
-            ..RIGHT
-        },
-    ),
-    (
-        "fp-from-the-end",
-        ShortRules {
-            fp_number: |fp| u64::from(RAM_END.wrapping_sub(fp)) / 4,
-            fp_of: fp_from_the_end,
-            ..RIGHT
-        },
-    ),
     ("bytes-behind", verdict(bytes_behind)),
     ("range-before-groups", verdict(range_first)),
     ("last-number", verdict(last_number)),
@@ -102,9 +84,6 @@ pub const MISTAKES: [(&str, ShortRules); 28] = [
     ("offset-cut", verdict(offset_cut)),
     ("place-cut", verdict(place_cut)),
     ("flags-cut", verdict(flags_cut)),
-    ("fp-cut", verdict(fp_cut)),
-    ("page-cut", verdict(page_cut)),
-    ("page-12-bits", verdict(page_12_bits)),
     ("room-one-less", put(put_but_one)),
     ("room-for-the-longest", put(put_as_the_longest)),
     ("room-cleared", put(put_and_clear)),
@@ -199,16 +178,10 @@ fn sp_one_below(number: u64) -> Option<u32> {
     }
 }
 
-/// FP counts words down from the end of RAM, as SP does.
-fn fp_from_the_end(number: u64) -> Option<u32> {
-    let fp = RAM_END.wrapping_sub(u32::try_from(4 * number).ok()?);
-    is_frame(fp).then_some(fp)
-}
-
 /// Bytes may follow the last number.
 fn bytes_behind(rules: ShortRules, reading: &Reading) -> Option<Refusal> {
     let mut reading = reading.clone();
-    if reading.value(AT_PAGE).is_some() {
+    if reading.value(AT_FLAGS).is_some() {
         reading.flaw = None;
     }
     (RIGHT.verdict)(rules, &reading)
@@ -278,19 +251,7 @@ fn place_cut(rules: ShortRules, reading: &Reading) -> Option<Refusal> {
 }
 
 fn flags_cut(rules: ShortRules, reading: &Reading) -> Option<Refusal> {
-    cut(rules, reading, AT_FLAGS..AT_FP, 8)
-}
-
-fn fp_cut(rules: ShortRules, reading: &Reading) -> Option<Refusal> {
-    cut(rules, reading, AT_FP..AT_PAGE, 32)
-}
-
-fn page_cut(rules: ShortRules, reading: &Reading) -> Option<Refusal> {
-    cut(rules, reading, AT_PAGE..AT_PAGE + 1, 16)
-}
-
-fn page_12_bits(rules: ShortRules, reading: &Reading) -> Option<Refusal> {
-    cut(rules, reading, AT_PAGE..AT_PAGE + 1, 12)
+    cut(rules, reading, AT_FLAGS..AT_FLAGS + 1, 8)
 }
 
 /// A room that is one byte too small is accepted, and written full.

@@ -1,13 +1,12 @@
 //! 02's images: 1 to 4,096 pages of 256 bytes, and beside them an index of one byte a page,
-//! its count. Build, replacement, and steps and runs from the record's page, with their
-//! refusals.
+//! its count. Build, replacement, and steps and runs in a page, with their refusals.
 
-use super::count::{count_of, is_fit_below};
-use super::machine::{accept_areas, run_given, Call, Running, Stop};
+use super::count::count_of;
+use super::machine::{accept_beside, run_given, Call, Stop};
 use super::memory::Memory;
 use super::page::{Code, NeverReturn, Page};
 use super::profile::Profile;
-use super::record::{given, Fields, Record};
+use super::record::{given, Record};
 use super::refusal::Refusal;
 use super::rules::Rules;
 use super::setting::Setting;
@@ -70,33 +69,16 @@ impl Lent<'_> {
     }
 }
 
-/// What a call on an image is asked.
+/// What a call on an image is asked. A build has no number, and only a replacement has a
+/// page.
 #[derive(Clone, Copy)]
 pub struct Asked<'a> {
     pub rules: Rules,
     pub image: Image<'a>,
-    /// The page that is replaced, or the record's; a build has none.
     pub number: u32,
-    /// The page that takes another's place.
     pub page: &'a [u8],
     /// How many bytes of RAM there are, in a run.
     pub ram: usize,
-    /// Why bytes hold no record, in a run.
-    pub no_record: Option<Refusal>,
-}
-
-impl<'a> Asked<'a> {
-    /// A build is asked no more than this.
-    fn of(rules: Rules, image: Image<'a>) -> Asked<'a> {
-        Asked {
-            rules,
-            image,
-            number: 0,
-            page: &[],
-            ram: 0,
-            no_record: None,
-        }
-    }
 }
 
 /// A refusal's number, and whether it applies.
@@ -108,8 +90,6 @@ pub const PROFILE: Test = (18, |asked| {
 });
 /// 12: the image's length.
 pub const IMAGE: Test = (12, |asked| !asked.image.has_length());
-/// 255, the library's own: bytes that hold no record.
-pub const RECORD: Test = (255, |asked| asked.no_record.is_some());
 /// 13: the page's number.
 pub const NUMBER: Test = (13, |asked| asked.number as usize >= asked.image.pages());
 /// 14: the index's length.
@@ -140,9 +120,6 @@ pub struct ImageRules {
     pub replace: &'static [Test],
     /// What refuses a step or a run, in order, before 2.
     pub run: &'static [Test],
-    /// What refuses its record after 20: so much external data, and whether the place is
-    /// fit.
-    pub unfit: fn(Rules, &Record, usize, bool) -> Option<u8>,
     /// The byte that the index gets for a page.
     pub byte: fn(Rules, Code) -> u8,
     /// Fills the index of an image.
@@ -153,7 +130,7 @@ pub struct ImageRules {
     pub refused_build: fn(Rules, u8, &mut Lent),
     /// What a replacement that is refused by a number does.
     pub refused_replace: fn(u8, &mut Lent, u32, &[u8]),
-    /// The page whose bytes a run has in a page.
+    /// The page whose bytes a run in a page has.
     pub run_page: fn(usize) -> usize,
     /// How many bundles of a page are code, as the fit place takes it.
     pub counted: fn(Image, usize) -> u8,
@@ -164,8 +141,7 @@ impl ImageRules {
     pub const RIGHT: ImageRules = ImageRules {
         build: &[PROFILE, IMAGE, INDEX],
         replace: &[PROFILE, IMAGE, NUMBER, INDEX, LENGTH],
-        run: &[PROFILE, IMAGE, RECORD, NUMBER, INDEX, BYTES],
-        unfit,
+        run: &[PROFILE, IMAGE, NUMBER, INDEX, BYTES],
         byte: count_byte,
         fill,
         put,
@@ -199,7 +175,13 @@ pub fn put(rules: Rules, lent: &mut Lent, number: usize, page: &[u8]) {
 
 /// Builds the index, or tells why not.
 pub fn build(rules: Rules, lent: &mut Lent) -> Result<(), u8> {
-    let asked = Asked::of(rules, lent.image());
+    let asked = Asked {
+        rules,
+        image: lent.image(),
+        number: 0,
+        page: &[],
+        ram: 0,
+    };
     let answer = first(rules.images.build, &asked);
     match answer {
         Ok(()) => (rules.images.fill)(rules, lent),
@@ -211,9 +193,11 @@ pub fn build(rules: Rules, lent: &mut Lent) -> Result<(), u8> {
 /// Replaces a page, or tells why not.
 pub fn replace(rules: Rules, lent: &mut Lent, number: u32, page: &[u8]) -> Result<(), u8> {
     let asked = Asked {
+        rules,
+        image: lent.image(),
         number,
         page,
-        ..Asked::of(rules, lent.image())
+        ram: 0,
     };
     let answer = first(rules.images.replace, &asked);
     match answer {
@@ -223,7 +207,8 @@ pub fn replace(rules: Rules, lent: &mut Lent, number: u32, page: &[u8]) -> Resul
     answer
 }
 
-/// What a step or a run in an image is given beside RAM, record and budget: any of each.
+/// What a step or a run in an image is given beside the page's number, RAM, record and
+/// budget: any of each.
 #[derive(Clone, Copy, Debug)]
 pub struct ImageSetting<'a> {
     pub image: Image<'a>,
@@ -242,26 +227,22 @@ impl<'a> ImageSetting<'a> {
     }
 }
 
-/// The page of a number, which must be in the image, as a run has it, or the number of a
-/// refusal.
-pub(super) fn page_in(rules: Rules, image: Image<'_>, number: usize) -> Result<Page<'_>, u8> {
-    (rules.run)(image.code((rules.images.run_page)(number)))
-}
-
-/// A run from the page and the place of the record that bytes hold: the stop and the steps.
+/// A run in the page of a number, on the bytes of a record: the stop and the steps.
 pub fn run_in(
     rules: Rules,
     setting: ImageSetting,
+    number: u32,
     ram: &mut [u8],
     bytes: &mut [u8],
     budget: u32,
 ) -> (Stop, u32) {
     let record = given(rules, bytes);
     let asked = Asked {
-        number: Fields::read(bytes).map_or(0, |fields| fields.page.into()),
+        rules,
+        image: setting.image,
+        number,
+        page: &[],
         ram: ram.len(),
-        no_record: record.as_ref().err().copied(),
-        ..Asked::of(rules, setting.image)
     };
     let known = record.as_ref().map_err(|&no_record| no_record);
     let accepted = accept(&asked, setting, known);
@@ -274,33 +255,19 @@ fn accept<'a>(
     asked: &Asked,
     setting: ImageSetting<'a>,
     record: Result<&Record, Refusal>,
-) -> Result<Running<'a>, Refusal> {
-    let (rules, image) = (asked.rules, setting.image);
-    first(rules.images.run, asked).map_err(|number| match asked.no_record {
-        Some(no_record) if number == no_record.number => no_record,
-        _ => Refusal::plain(number),
-    })?;
+) -> Result<Page<'a>, Refusal> {
+    let rules = asked.rules;
+    first(rules.images.run, asked).map_err(Refusal::plain)?;
     let number = asked.number as usize;
-    let page = page_in(rules, image, number).map_err(Refusal::plain)?;
+    let alone = setting.alone((rules.images.run_page)(number));
+    let page = (rules.run)(alone.code).map_err(Refusal::plain)?;
     let call = Call {
         rules,
-        setting: setting.alone(number),
+        setting: alone,
         ram: asked.ram,
         record,
     };
-    accept_areas(call)?;
-    let record = record?;
-    let counted = (rules.images.counted)(image, number);
-    let place_is_fit = is_fit_below(counted.into(), page, record.place.into());
-    match (rules.images.unfit)(rules, record, setting.external.len(), place_is_fit) {
-        Some(number) => Err(Refusal::plain(number)),
-        None => Ok(Running::in_image(page, image)),
-    }
-}
-
-/// 41 to 44 as on a lone page, then 45 for FP, then 5.
-pub fn unfit(rules: Rules, record: &Record, external: usize, place_is_fit: bool) -> Option<u8> {
-    let by_a_lone_page = (rules.unfit)(record, external, true);
-    let by_fp = (!(rules.calls.is_frame)(record.fp)).then_some(45);
-    by_a_lone_page.or(by_fp).or((!place_is_fit).then_some(5))
+    let counted = (rules.images.counted)(setting.image, number);
+    accept_beside(call, page, |_| counted.into())?;
+    Ok(page)
 }

@@ -1,11 +1,9 @@
-//! Steps and runs, with their faults and stops; and the refusals of those on a lone page, 18,
-//! 1 to 3, 20, 41 to 44 and 5, and the library's own 255.
+//! Steps and runs in a lone page, with their refusals, 18, 1 to 3, 20, 41 to 44 and 5, and
+//! the library's own 255, faults and stops.
 
 use super::arith::{add_with_carry, multiply, sdiv, shift_c, sign_extend, udiv, Shift};
-use super::calls::{linked, Link};
 use super::count::{branch_target, is_fit_below};
 use super::decode::{opens_wide, BaseRegister, DataOp, Instruction, Operand, Register, Size};
-use super::image::{page_in, Image};
 use super::memory::{is_external_length, ByBase, Fault, Memory, RAM_SIZE};
 use super::page::Page;
 use super::record::{given, stored_bytes, Base, Record};
@@ -79,10 +77,13 @@ pub fn run_by(
             steps: 0,
             stop: Stop::Refused(refusal),
         },
-        Ok(page) => {
-            let memory = Memory::of(rules, setting.external, setting.window, ram);
-            Machine::new(rules, Running::alone(page), memory, record).run(budget)
+        Ok(page) => Machine {
+            page,
+            memory: Memory::of(rules, setting.external, setting.window, ram),
+            record: record.clone(),
+            rules,
         }
+        .run(budget),
     }
 }
 
@@ -103,43 +104,30 @@ pub fn run_bytes(
         ram: ram.len(),
         record: record.as_ref().map_err(|&no_record| no_record),
     };
-    let accepted = (rules.accept)(call).map(Running::alone);
+    let accepted = (rules.accept)(call);
     let memory = Memory::of(rules, setting.external, setting.window, ram);
     run_given(rules, accepted, memory, (&record, bytes), budget)
 }
 
-/// What is run: a page and, where it stands in one, the image around it.
-#[derive(Clone, Copy)]
-pub(super) struct Running<'a> {
-    page: Page<'a>,
-    image: Option<Image<'a>>,
-}
-
-impl<'a> Running<'a> {
-    /// A lone page.
-    fn alone(page: Page<'a>) -> Self {
-        Running { page, image: None }
-    }
-
-    /// A page of an image.
-    pub(super) fn in_image(page: Page<'a>, image: Image<'a>) -> Self {
-        let image = Some(image);
-        Running { page, image }
-    }
-}
-
-/// A run of what its refusals leave, from the record that bytes hold, if they hold one.
-pub(super) fn run_given<'a>(
+/// A run on the page that its refusals leave, from the record that bytes hold, if they
+/// hold one.
+pub(super) fn run_given(
     rules: Rules,
-    accepted: Result<Running<'a>, Refusal>,
-    memory: Memory<'a>,
+    accepted: Result<Page, Refusal>,
+    memory: Memory,
     (record, bytes): (&Result<Record, Refusal>, &mut [u8]),
     budget: u32,
 ) -> (Stop, u32) {
     match (accepted, record) {
         (Err(refusal), _) | (_, &Err(refusal)) => (Stop::Refused(refusal), 0),
-        (Ok(running), Ok(record)) => {
-            let answer = Machine::new(rules, running, memory, record).run(budget);
+        (Ok(page), Ok(record)) => {
+            let machine = Machine {
+                page,
+                memory,
+                record: record.clone(),
+                rules,
+            };
+            let answer = machine.run(budget);
             bytes.copy_from_slice(&stored_bytes(&answer.record));
             (answer.stop, answer.steps)
         }
@@ -165,29 +153,37 @@ impl Call<'_> {
     }
 }
 
-/// All refusals of a step or a run on a lone page, in order.
+/// All refusals of a step or a run, in order.
 pub fn accept(call: Call) -> Result<Page, Refusal> {
-    let Call { rules, setting, .. } = call;
-    let page = (rules.run)(setting.code).map_err(Refusal::plain)?;
-    accept_areas(call)?;
-    let record = call.record?;
-    let place_is_fit = is_fit_below((rules.count)(page), page, record.place.into());
-    match (rules.unfit)(record, setting.external.len(), place_is_fit) {
-        Some(number) => Err(Refusal::plain(number)),
-        None => Ok(page),
-    }
+    let rules = call.rules;
+    let page = (rules.run)(call.setting.code).map_err(Refusal::plain)?;
+    accept_beside(call, page, rules.count).map(|()| page)
 }
 
-/// Those of what is lent beside the page or the image: 2, 3, 20.
-pub(super) fn accept_areas(call: Call) -> Result<(), Refusal> {
-    let setting = call.setting;
-    let refused = match () {
-        _ if call.ram != RAM_SIZE => 2,
-        _ if !is_external_length(setting.external.len()) => 3,
-        _ if !setting.window.is_allowed() => 20,
-        _ => return Ok(()),
-    };
-    Err(Refusal::plain(refused))
+/// Those that follow the page's own, by the page's count: 2, 3, 20, the library's 255, 41
+/// to 44, 5.
+pub(super) fn accept_beside(
+    call: Call,
+    page: Page,
+    count: impl FnOnce(Page) -> usize,
+) -> Result<(), Refusal> {
+    let Call { rules, setting, .. } = call;
+    let external = setting.external.len();
+    if call.ram != RAM_SIZE {
+        return Err(Refusal::plain(2));
+    }
+    if !is_external_length(external) {
+        return Err(Refusal::plain(3));
+    }
+    if !setting.window.is_allowed() {
+        return Err(Refusal::plain(20));
+    }
+    let record = call.record?;
+    let place_is_fit = is_fit_below(count(page), page, usize::from(record.place));
+    match (rules.unfit)(record, external, place_is_fit) {
+        Some(number) => Err(Refusal::plain(number)),
+        None => Ok(()),
+    }
 }
 
 /// What an instruction leads to when it does not fault.
@@ -196,8 +192,6 @@ enum Next {
     Follow,
     /// A byte address in the page.
     Jump(i64),
-    /// Where a call or a return within the image has led already.
-    Linked,
     /// A stop for the host, at which the place stays or moves on.
     Exit {
         stays: bool,
@@ -220,31 +214,13 @@ impl From<Fault> for Halt {
 
 /// A machine within one call.
 struct Machine<'a> {
-    /// What it began with.
-    running: Running<'a>,
-    /// The page that the place is in.
     page: Page<'a>,
     memory: Memory<'a>,
     record: Record,
     rules: Rules,
 }
 
-impl<'a> Machine<'a> {
-    /// A machine that has not begun.
-    fn new(rules: Rules, running: Running<'a>, memory: Memory<'a>, record: &Record) -> Self {
-        let given = record.clone();
-        Machine {
-            running,
-            page: running.page,
-            memory,
-            record: match running.image {
-                None => (rules.calls.lone)(given),
-                Some(_) => given,
-            },
-            rules,
-        }
-    }
-
+impl Machine<'_> {
     /// Goes on until the budget is spent or an instruction stops the run.
     fn run(mut self, budget: u32) -> Answer {
         let allowed = (self.rules.allowed)(budget);
@@ -313,7 +289,6 @@ impl<'a> Machine<'a> {
                 self.record.place = (address / 2) as u16;
                 None
             }
-            Next::Linked => None,
             Next::Exit {
                 stays,
                 low,
@@ -499,7 +474,7 @@ impl<'a> Machine<'a> {
         match instruction {
             Instruction::LoadLiteral { t, words } => {
                 let bundle = usize::from(self.record.place) / 2 + 1 + words;
-                let value = self.literals().word(bundle).ok_or(Fault::PastPage)?;
+                let value = self.page.word(bundle).ok_or(Fault::PastPage)?;
                 self.write(t, value);
             }
             Instruction::StackStore { t, offset } => {
@@ -538,23 +513,15 @@ impl<'a> Machine<'a> {
         }
     }
 
-    /// The page that literals stand in.
-    fn literals(&self) -> Page<'a> {
-        (self.rules.calls.literals)(self.running.page, self.page)
-    }
-
     /// A service: by its low byte or by its literal word.
     fn service(&mut self, low: u8, service: Service) -> Result<Next, Halt> {
         let (action, literal) = match service {
             Service::Direct(action) => (action, None),
             Service::ByLiteral(number) => {
-                let word = self.literals().word(number).ok_or(Halt::Unlisted)?;
+                let word = self.page.word(number).ok_or(Halt::Unlisted)?;
                 (literal_service(word).ok_or(Halt::Unlisted)?, Some(word))
             }
         };
-        if self.link(action)? {
-            return Ok(Next::Linked);
-        }
         self.record.base = self.act(action)?;
         Ok(match action {
             Action::Exit(exit) => Next::Exit {
@@ -564,27 +531,6 @@ impl<'a> Machine<'a> {
             },
             _ => Next::Follow,
         })
-    }
-
-    /// Calls within an image, or returns there; tells whether the service was one.
-    fn link(&mut self, action: Action) -> Result<bool, Fault> {
-        let (Action::Exit(exit), Some(image)) = (action, self.running.image) else {
-            return Ok(false);
-        };
-        let mut link = Link {
-            rules: self.rules,
-            image,
-            memory: &mut self.memory,
-            record: &self.record,
-        };
-        let Some(record) = linked(&mut link, exit)? else {
-            return Ok(false);
-        };
-        if let Ok(page) = page_in(self.rules, image, record.page.into()) {
-            self.page = page;
-        }
-        self.record = record;
-        Ok(true)
     }
 
     /// What a service does; the answer is the base it leaves.

@@ -1,8 +1,8 @@
 //! 01's "Memory": validate, and loads and stores by r8, r9 and SP, which 02's window
-//! holds to a part of RAM, as it does frames.
+//! holds to a part of RAM.
 
 use super::decode::{BaseRegister, Size};
-use super::record::{Base, FRAME, MOST_EXTERNAL, RAM_OFFSETS, RAM_START};
+use super::record::{Base, MOST_EXTERNAL, RAM_OFFSETS, RAM_START};
 use super::rules::Rules;
 use super::window::Window;
 
@@ -23,9 +23,6 @@ pub enum Fault {
     StackTooLow = 5,
     PastPage = 6,
     OutsideWindow = 7,
-    UnfitPlace = 8,
-    LowFrame = 9,
-    UnfitFrame = 10,
 }
 
 impl Fault {
@@ -77,9 +74,6 @@ pub enum Way {
     Store,
     StackLoad,
     StackStore,
-    /// Of a frame, which always ends in RAM.
-    FrameLoad,
-    FrameStore,
 }
 
 impl Way {
@@ -87,7 +81,7 @@ impl Way {
     pub fn past(self) -> Fault {
         match self {
             Way::Load | Way::Store => Fault::PastRam,
-            Way::StackLoad | Way::StackStore | Way::FrameLoad | Way::FrameStore => Fault::PastStack,
+            Way::StackLoad | Way::StackStore => Fault::PastStack,
         }
     }
 }
@@ -108,25 +102,6 @@ impl Access {
             at: (sp - RAM_START) as usize + offset as usize,
             size: 4,
         }
-    }
-
-    /// The access of the eight words of a frame.
-    fn of_frame(way: Way, frame: u32) -> Access {
-        Access {
-            way,
-            at: frame.wrapping_sub(RAM_START) as usize,
-            size: FRAME as usize,
-        }
-    }
-
-    /// Its words, each as an access by itself.
-    fn words(self) -> impl Iterator<Item = Access> {
-        let starts = (self.at..self.at + self.size).step_by(4);
-        starts.map(move |at| Access {
-            at,
-            size: 4,
-            ..self
-        })
     }
 
     /// True if it ends in RAM.
@@ -208,53 +183,21 @@ impl<'a> Memory<'a> {
 }
 
 impl Memory<'_> {
-    /// The fault of an access, if it has one.
-    fn tested(&self, access: Access) -> Result<(), Fault> {
+    /// Reads RAM. Nothing else does.
+    fn read(&self, access: Access) -> Result<u32, Fault> {
         match (self.rules.ram_fault)(access, self.window) {
             Some(fault) => Err(fault),
-            None => Ok(()),
+            None => Ok(number(&self.ram[access.at..][..access.size])),
         }
     }
 
-    /// Reads RAM, which has been tested. Nothing else does.
-    fn get(&self, access: Access) -> u32 {
-        number(&self.ram[access.at..][..access.size])
-    }
-
-    /// Writes the low bytes of a value to RAM, which has been tested. Nothing else does.
-    fn put(&mut self, access: Access, value: u32) {
+    /// Writes the low bytes of a value to RAM. Nothing else does.
+    fn write(&mut self, access: Access, value: u32) -> Result<(), Fault> {
+        if let Some(fault) = (self.rules.ram_fault)(access, self.window) {
+            return Err(fault);
+        }
         let bytes = &value.to_le_bytes()[..access.size];
         self.ram[access.at..][..access.size].copy_from_slice(bytes);
-    }
-
-    /// A number in RAM.
-    fn read(&self, access: Access) -> Result<u32, Fault> {
-        self.tested(access).map(|()| self.get(access))
-    }
-
-    /// The low bytes of a value, put into RAM.
-    fn write(&mut self, access: Access, value: u32) -> Result<(), Fault> {
-        self.tested(access).map(|()| self.put(access, value))
-    }
-
-    /// The words of a frame, lowest first; the frame must lie in RAM, and is tested whole.
-    pub fn read_frame(&self, frame: u32) -> Result<[u32; 8], Fault> {
-        let access = Access::of_frame(Way::FrameLoad, frame);
-        self.tested(access)?;
-        let mut words = [0; 8];
-        for (word, own) in words.iter_mut().zip(access.words()) {
-            *word = self.get(own);
-        }
-        Ok(words)
-    }
-
-    /// The same in writing.
-    pub fn write_frame(&mut self, frame: u32, words: [u32; 8]) -> Result<(), Fault> {
-        let access = Access::of_frame(Way::FrameStore, frame);
-        self.tested(access)?;
-        for (word, own) in words.into_iter().zip(access.words()) {
-            self.put(own, word);
-        }
         Ok(())
     }
 
@@ -314,11 +257,8 @@ pub fn store(memory: &mut Memory, given: ByBase, value: u32) -> Result<(), Fault
 
 /// SP less so many bytes.
 pub fn lower_stack(sp: u32, bytes: u32) -> Result<u32, Fault> {
-    lowered(sp, bytes).ok_or(Fault::StackTooLow)
-}
-
-/// An address less so many bytes, if that isn't below RAM.
-pub fn lowered(address: u32, bytes: u32) -> Option<u32> {
-    let lower = address.checked_sub(bytes)?;
-    (lower >= RAM_START).then_some(lower)
+    match sp.checked_sub(bytes) {
+        Some(lower) if lower >= RAM_START => Ok(lower),
+        _ => Err(Fault::StackTooLow),
+    }
 }

@@ -1,9 +1,7 @@
 //! The second program: decoder, profiles, arithmetic, services, count, records and
-//! their two stored forms, settings with their windows, machine, images, calls between
-//! their pages, text.
+//! their two stored forms, settings with their windows, machine, images, text.
 
 pub mod arith;
-pub mod calls;
 pub mod count;
 pub mod decode;
 pub mod exits;

@@ -1,4 +1,4 @@
-//! The record, the tests of a fit record, and its stored form of 50 bytes, with
+//! The record, the tests of a fit record, and its stored form of 44 bytes, with
 //! 02's refusals that say which field is wrong.
 
 use super::arith::Flags;
@@ -15,12 +15,8 @@ pub const RAM_OFFSETS: u32 = 1 << 20;
 pub const MOST_EXTERNAL: u32 = 1 << 24;
 /// Last place a stored form may hold.
 pub const LAST_PLACE: u16 = 127;
-/// Last page that a stored form may hold.
-pub const LAST_PAGE: u16 = 4095;
-/// Bytes of a frame: eight words.
-pub const FRAME: u32 = 32;
 /// Size of the stored form.
-pub const STORED: usize = 50;
+pub const STORED: usize = 44;
 
 /// Where the fields that can fail begin in the stored form, in its order.
 pub const AT_SP: u8 = 32;
@@ -28,8 +24,6 @@ pub const AT_KIND: u8 = 36;
 pub const AT_OFFSET: u8 = 37;
 pub const AT_PLACE: u8 = 41;
 pub const AT_FLAGS: u8 = 43;
-pub const AT_FP: u8 = 44;
-pub const AT_PAGE: u8 = 48;
 
 /// The base that r8 and r9 stand for.
 #[derive(Clone, Copy, Debug, Default, PartialEq, Eq)]
@@ -48,10 +42,6 @@ pub struct Record {
     pub flags: Flags,
     pub place: u16,
     pub base: Base,
-    /// The current frame, 0 for none.
-    pub fp: u32,
-    /// The page of an image that the place is in.
-    pub page: u16,
 }
 
 impl Record {
@@ -63,20 +53,12 @@ impl Record {
             flags: Flags::default(),
             place: 0,
             base: Base::None,
-            fp: 0,
-            page: 0,
         }
     }
 }
 
-/// 02's frame test of an FP: 0, or a multiple of 4 whose eight words all lie in user RAM.
-pub fn is_frame(fp: u32) -> bool {
-    let inside = (RAM_START..=RAM_END - FRAME).contains(&fp);
-    fp == 0 || (inside && fp.is_multiple_of(4))
-}
-
-/// What a step and a run on a lone page refuse a record by, with so many bytes of
-/// external data: 41 to 44 by 01's "Fit record", then 5. FP and page have no part in it.
+/// What a step and a run refuse a record by, with so many bytes of external
+/// data: 41 to 44 by 01's "Fit record", then 5.
 pub fn unfit(record: &Record, external: usize, place_is_fit: bool) -> Option<u8> {
     if !(RAM_START..=RAM_END).contains(&record.sp) {
         return Some(41);
@@ -100,28 +82,23 @@ pub struct Fields {
     pub offset: u32,
     pub place: u16,
     pub flags: u8,
-    pub fp: u32,
-    pub page: u16,
 }
 
 impl Fields {
-    /// The fields of 50 bytes; nothing of another length.
+    /// The fields of 44 bytes; nothing of another length.
     pub fn read(bytes: &[u8]) -> Option<Fields> {
         if bytes.len() != STORED {
             return None;
         }
         let byte = |at: u8| bytes[usize::from(at)];
-        let half = |at: u8| u16::from_le_bytes([byte(at), byte(at + 1)]);
         let word = |at: u8| u32::from_le_bytes([0, 1, 2, 3].map(|next| byte(at + next)));
         Some(Fields {
             registers: [0, 4, 8, 12, 16, 20, 24, 28].map(word),
             sp: word(AT_SP),
             kind: byte(AT_KIND),
             offset: word(AT_OFFSET),
-            place: half(AT_PLACE),
+            place: u16::from_le_bytes([byte(AT_PLACE), byte(AT_PLACE + 1)]),
             flags: byte(AT_FLAGS),
-            fp: word(AT_FP),
-            page: half(AT_PAGE),
         })
     }
 
@@ -140,8 +117,6 @@ impl Fields {
             offset,
             place: record.place,
             flags: 8 * u8::from(n) + 4 * u8::from(z) + 2 * u8::from(c) + u8::from(v),
-            fp: record.fp,
-            page: record.page,
         }
     }
 
@@ -160,14 +135,11 @@ impl Fields {
             (AT_OFFSET, !offset_fits),
             (AT_PLACE, self.place > LAST_PLACE),
             (AT_FLAGS, self.flags > 15),
-            (AT_FP, !is_frame(self.fp)),
-            (AT_PAGE, self.page > LAST_PAGE),
         ];
         positions(&failing)
     }
 
-    /// The positions of the fields that no record has, first to last. Any FP and any page
-    /// is some record's.
+    /// The positions of the fields that no record has, first to last.
     pub fn of_no_record(&self) -> Vec<u8> {
         let failing = [
             (AT_KIND, self.kind > 2),
@@ -195,8 +167,6 @@ impl Fields {
             },
             place: self.place,
             base,
-            fp: self.fp,
-            page: self.page,
         }
     }
 }
@@ -222,7 +192,7 @@ pub(super) fn stored(rules: Rules, bytes: &[u8]) -> Result<Record, Refusal> {
     let fields = Fields::read(bytes).ok_or(Refusal::plain(6))?;
     match (rules.out_of_range)(&fields) {
         Some(position) => Err(Refusal::at(7, position)),
-        None => Ok((rules.stored)(fields.record())),
+        None => Ok(fields.record()),
     }
 }
 
@@ -261,7 +231,5 @@ pub fn stored_bytes(record: &Record) -> Vec<u8> {
     bytes.extend(fields.offset.to_le_bytes());
     bytes.extend(fields.place.to_le_bytes());
     bytes.push(fields.flags);
-    bytes.extend(fields.fp.to_le_bytes());
-    bytes.extend(fields.page.to_le_bytes());
     bytes
 }

@@ -1,6 +1,6 @@
 //! A refusal with what it carries.
 
-/// A refusal: its number and, with 7 and 255, the position in the 50-byte form of
+/// A refusal: its number and, with 7 and 255, the position in the 44-byte form of
 /// the first failing field.
 #[derive(Clone, Copy, Debug, PartialEq, Eq)]
 pub struct Refusal {

@@ -2,7 +2,6 @@
 //! a wrong one.
 
 use super::arith::{condition_passed, Flags};
-use super::calls::CallRules;
 use super::count::{count, read_bundle, Reading};
 use super::exits::{exit_of, Exit};
 use super::image::ImageRules;
@@ -35,13 +34,11 @@ pub struct Rules {
     pub stays: fn(Exit, NeverReturn) -> bool,
     /// validate(v), with so many bytes of external data.
     pub validate: fn(u32, usize) -> Base,
-    /// What a step or a run on a lone page refuses a record by: so much external data,
-    /// and whether its place is fit.
+    /// What a step or a run refuses a record by: so much external data, and
+    /// whether its place is fit.
     pub unfit: fn(&Record, usize, bool) -> Option<u8>,
     /// The position that 7 carries, if a field of the stored form fails.
     pub out_of_range: fn(&Fields) -> Option<u8>,
-    /// What storing, reading back and packing keep of a record.
-    pub stored: fn(Record) -> Record,
     /// The position that 255 carries, if the fields are no record's.
     pub no_record: fn(&Fields) -> Option<u8>,
     /// The exit of a low byte and its literal, if it is one.
@@ -52,8 +49,6 @@ pub struct Rules {
     pub short: ShortRules,
     /// Those of images.
     pub images: ImageRules,
-    /// Those of calls and returns in an image.
-    pub calls: CallRules,
 }
 
 impl Rules {
@@ -70,12 +65,10 @@ impl Rules {
         validate,
         unfit,
         out_of_range: |fields| fields.out_of_range().first().copied(),
-        stored: |record| record,
         no_record: |fields| fields.of_no_record().first().copied(),
         exit: exit_of,
         memory: MemoryRules::RIGHT,
         short: ShortRules::RIGHT,
         images: ImageRules::RIGHT,
-        calls: CallRules::RIGHT,
     };
 }

@@ -1,22 +1,22 @@
 //! 02's short stored form, each part a number in groups: r0 to r7,
-//! (0x18000 - SP)/4, base kind, offset (left out for none), place, flags, FP, page.
+//! (0x18000 - SP)/4, base kind, offset (left out for none), place, flags.
 
 use super::groups::{self, Taken};
 use super::record::{
-    is_frame, stored, stored_bytes, Fields, Record, AT_FLAGS, AT_FP, AT_KIND, AT_OFFSET, AT_PAGE,
-    AT_PLACE, AT_SP, LAST_PAGE, LAST_PLACE, MOST_EXTERNAL, RAM_END, RAM_OFFSETS, RAM_START, STORED,
+    stored, stored_bytes, Fields, Record, AT_FLAGS, AT_KIND, AT_OFFSET, AT_PLACE, AT_SP,
+    LAST_PLACE, MOST_EXTERNAL, RAM_END, RAM_OFFSETS, RAM_START, STORED,
 };
 use super::refusal::Refusal;
 use super::rules::Rules;
 
 /// Least bytes of the short form of a record in range.
-pub const LEAST: usize = 14;
+pub const LEAST: usize = 12;
 /// Most bytes of it.
-pub const MOST: usize = 54;
+pub const MOST: usize = 49;
 
-/// The fields in the short form's order, each by its position in the 50-byte form.
-pub const FIELDS: [u8; 15] = [
-    0, 4, 8, 12, 16, 20, 24, 28, AT_SP, AT_KIND, AT_OFFSET, AT_PLACE, AT_FLAGS, AT_FP, AT_PAGE,
+/// The fields in the short form's order, each by its position in the 44-byte form.
+pub const FIELDS: [u8; 13] = [
+    0, 4, 8, 12, 16, 20, 24, 28, AT_SP, AT_KIND, AT_OFFSET, AT_PLACE, AT_FLAGS,
 ];
 
 /// A number of a short form, with the position of its field.
@@ -60,10 +60,6 @@ pub struct ShortRules {
     pub sp_number: fn(u32) -> u64,
     /// The SP of a number, if one is in range.
     pub sp_of: fn(u64) -> Option<u32>,
-    /// The number that stands for FP.
-    pub fp_number: fn(u32) -> u64,
-    /// The FP of a number, if one is in range.
-    pub fp_of: fn(u64) -> Option<u32>,
     /// What a reading is refused by.
     pub verdict: fn(ShortRules, &Reading) -> Option<Refusal>,
     /// Puts a form into the room lent: its length, or 10.
@@ -82,8 +78,6 @@ impl ShortRules {
         has_offset: |kind| kind != 0,
         sp_number: |sp| u64::from(RAM_END - sp) / 4,
         sp_of,
-        fp_number: |fp| fp.into(),
-        fp_of: |number| u32::try_from(number).ok().filter(|&fp| is_frame(fp)),
         verdict,
         put,
         pack,
@@ -143,8 +137,6 @@ impl Reading {
             AT_OFFSET => value < offsets,
             AT_PLACE => value <= u64::from(LAST_PLACE),
             AT_FLAGS => value <= 15,
-            AT_FP => (rules.fp_of)(value).is_some(),
-            AT_PAGE => value <= u64::from(LAST_PAGE),
             _ => value < 1 << 32,
         };
         let failing = self.numbers.iter().filter(|number| !fits(number));
@@ -161,8 +153,6 @@ impl Reading {
             offset: value(AT_OFFSET) as u32,
             place: value(AT_PLACE) as u16,
             flags: value(AT_FLAGS) as u8,
-            fp: (rules.fp_of)(value(AT_FP)).unwrap_or(0),
-            page: value(AT_PAGE) as u16,
         };
         fields.record()
     }
@@ -187,7 +177,6 @@ fn form(rules: ShortRules, record: &Record) -> Vec<u8> {
         numbers.push(fields.offset.into());
     }
     numbers.extend([u64::from(fields.place), u64::from(fields.flags)]);
-    numbers.extend([(rules.fp_number)(fields.fp), fields.page.into()]);
     numbers.into_iter().flat_map(rules.write).collect()
 }
 
@@ -198,7 +187,7 @@ fn put(form: &[u8], room: &mut [u8]) -> Result<usize, Refusal> {
     Ok(form.len())
 }
 
-/// 6 and 7 of the 50 bytes, then 10.
+/// 6 and 7 of the 44 bytes, then 10.
 fn pack(rules: Rules, bytes: &[u8], room: &mut [u8]) -> Result<usize, Refusal> {
     let record = stored(rules, bytes)?;
     (rules.short.put)(&form(rules.short, &record), room)

@@ -97,7 +97,7 @@ pub fn packed(rules: Rules, stored: &[u8]) -> Vec<u8> {
     }
 }
 
-/// What unpacking the short form on standard input prints: the 50 bytes, or the line
+/// What unpacking the short form on standard input prints: the 44 bytes, or the line
 /// of a refusal.
 pub fn unpacked(rules: Rules, packed: &[u8]) -> Vec<u8> {
     let mut room = [0; STORED];

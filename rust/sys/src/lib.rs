@@ -52,8 +52,8 @@ extern "C" {
     pub fn mb_raw_fresh(record: *mut u8, record_length: usize) -> u32;
 
     /// Stores a record in the room. Here and below, `position` says with 7 and
-    /// 255 where the first failing field begins in the 50 bytes; else, and with 255
-    /// where the bytes aren't 50, it is 0.
+    /// 255 where the first failing field begins in the 44 bytes; else, and with 255
+    /// where the bytes aren't 44, it is 0.
     pub fn mb_raw_store(
         record: *const u8,
         record_length: usize,
@@ -160,9 +160,8 @@ extern "C" {
         page_length: usize,
     ) -> u32;
 
-    /// Runs the record from its page of the image, as [`mb_raw_run`] does in a page alone,
-    /// but that calls into the image and returns through a frame are steps, where every
-    /// byte of the index is its page's count.
+    /// Runs the record in the page of a number, as [`mb_raw_run`] does in a page alone,
+    /// where every byte of the index is its page's count.
     pub fn mb_raw_image_run(
         image: *const u8,
         image_length: usize,
@@ -170,6 +169,7 @@ extern "C" {
         index_length: usize,
         never_return: u64,
         profile: u32,
+        number: u32,
         ram: *mut u8,
         ram_length: usize,
         external: *const u8,
@@ -186,7 +186,7 @@ extern "C" {
         steps: *mut u32,
     ) -> u32;
 
-    /// One step in an image: a run with budget 1.
+    /// One step in the page of a number: a run with budget 1.
     pub fn mb_raw_image_step(
         image: *const u8,
         image_length: usize,
@@ -194,6 +194,7 @@ extern "C" {
         index_length: usize,
         never_return: u64,
         profile: u32,
+        number: u32,
         ram: *mut u8,
         ram_length: usize,
         external: *const u8,

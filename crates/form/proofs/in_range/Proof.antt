@@ -2,7 +2,6 @@ use Rattle.form.proofs.Ranges.{range_tests}
 use borrow.Author.Tests.{not-true, not-false, lt-leb, le-leb}
 use native.Mathlib.Omega.{arith}
 use mathlib.Core.Path.{sym, ◌∙◌}
-use lib.ListN.{get_or}
 use borrow.Author.Rules.{rules}
 use Rattle.form.proofs.in_range.Statement.{statement}
 use Rattle.form.proofs.in_range.Tie as tie
@@ -23,18 +22,9 @@ returns-5 : tie.Need-returns-5
 returns-5 c = rw (range_tests c.before.before.before.before.before.before.before.args.t1 (omega arith), sym c.before.before.before.before.before.before.sp-fits.ensures ∙ not-false _ c.before.before.before.before.before.if1.false, le-leb _ _ c.before.before.before.before.if2.false, sym c.before.before.before.offset-in-range.ensures ∙ not-false _ c.before.before.if3.false, le-leb _ _ c.before.if4.false, lt-leb _ _ c.if5.true)
 
 returns-6 : tie.Need-returns-6
-returns-6 c = let d = c.before.before in rw (range_tests d.before.before.before.before.before.before.before.args.t1 (omega arith), sym d.before.before.before.before.before.before.sp-fits.ensures ∙ not-false _ d.before.before.before.before.before.if1.false, le-leb _ _ d.before.before.before.before.if2.false, sym d.before.before.before.offset-in-range.ensures ∙ not-false _ d.before.before.if3.false, le-leb _ _ d.before.if4.false, le-leb _ _ d.if5.false, sym c.before.fp-fits.ensures ∙ not-true _ c.if6.true)
-
-returns-7 : tie.Need-returns-7
-returns-7 c =
-    let d = c.before.before.before in
-    let page = get_or d.before.before.before.before.before.before.before.args.t1 14 0 in
-    rw (range_tests d.before.before.before.before.before.before.before.args.t1 (omega arith), sym d.before.before.before.before.before.before.sp-fits.ensures ∙ not-false _ d.before.before.before.before.before.if1.false, le-leb _ _ d.before.before.before.before.if2.false, sym d.before.before.before.offset-in-range.ensures ∙ not-false _ d.before.before.if3.false, le-leb _ _ d.before.if4.false, le-leb _ _ d.if5.false, sym c.before.before.fp-fits.ensures ∙ not-false _ c.before.if6.false, lt-leb page 4095 (omega (arith, c.if7.true)))
-
-returns-8 : tie.Need-returns-8
-returns-8 c = let d = c.before.before.before in rw (range_tests d.before.before.before.before.before.before.before.args.t1 (omega arith), sym d.before.before.before.before.before.before.sp-fits.ensures ∙ not-false _ d.before.before.before.before.before.if1.false, le-leb _ _ d.before.before.before.before.if2.false, sym d.before.before.before.offset-in-range.ensures ∙ not-false _ d.before.before.if3.false, le-leb _ _ d.before.if4.false, le-leb _ _ d.if5.false, sym c.before.before.fp-fits.ensures ∙ not-false _ c.before.if6.false, le-leb _ _ c.if7.false)
+returns-6 c = rw (range_tests c.before.before.before.before.before.before.before.args.t1 (omega arith), sym c.before.before.before.before.before.before.sp-fits.ensures ∙ not-false _ c.before.before.before.before.before.if1.false, le-leb _ _ c.before.before.before.before.if2.false, sym c.before.before.before.offset-in-range.ensures ∙ not-false _ c.before.before.if3.false, le-leb _ _ c.before.if4.false, le-leb _ _ c.if5.false)
 
 pub in-range-spec : {M : Type 1} → statement M
 in-range-spec = tie.close (tie.spec (λ c. search rules) (λ c κs. tt) returns (λ c. search rules)
     returns-2 (λ c. search rules) (λ c. search rules) (λ c κs. tt) returns-3 (λ c. search rules)
-    returns-4 (λ c. search rules) returns-5 (λ c. search rules) (λ c κs. tt) returns-6 (λ c. search rules) returns-7 returns-8)
+    returns-4 (λ c. search rules) returns-5 returns-6)

@@ -29,7 +29,7 @@ returns-3 c =
     let room = s.room.now in
     let long = c.before.before.before.before.before.before.before.before.if1.false in
     let e = decided (length room) (values_of s.r) _ _ Accepted long c.before.before.before.before.before.before.before.values_of.ensures c.before.before.before.before.before.before.in-range.ensures c.before.before.before.before.enum_told.given.1 in
-    let written = ap (λ (t : Bool). cond t (record_bytes s.r) room) (eq-eqb (length room) 50 long) in
+    let written = ap (λ (t : Bool). cond t (record_bytes s.r) room) (eq-eqb (length room) 44 long) in
     (e, c.before.before.write.ensures.1 ∙ written ∙ room_by (range_rules (values_of s.r)) s.r room accepted e)
 
 pub store_spec : {M : Type 1} → statement M

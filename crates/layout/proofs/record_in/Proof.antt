@@ -1,7 +1,5 @@
-use Prim.Native.Nat.{ℕ, ◌<◌}
 use mathlib.Core.Path.{ap, ◌∙◌}
 use lib.Dec.{lit<}
-use lib.ListN.{get_or}
 use borrow.Author.Rules.{rules}
 use Rattle.layout.specs.StoredForm.{stored_form, record_of}
 use Rattle.layout.proofs.Fields.{decode_below}
@@ -9,10 +7,7 @@ use Rattle.layout.proofs.record_in.Statement.{statement}
 use Rattle.layout.proofs.record_in.Tie as tie
 
 record-of-requires : tie.Need-record-of-requires
-record-of-requires c κs =
-    let bytes = c.before.before.args.bytes.now in
-    let below : (k : ℕ) → get_or bytes k 0 < 256 = λ k. (c.before.shared-slice-known.given k).fits in
-    rw c.values-in.ensures (decode_below stored_form 11 bytes (lit< tt) below, decode_below stored_form 14 bytes (lit< tt) below)
+record-of-requires c κs = rw c.values-in.ensures (decode_below stored_form 11 c.before.before.args.bytes.now (lit< tt) (λ k. (c.before.shared-slice-known.given k).fits))
 
 returns : tie.Need-returns
 returns c = c.record_of.ensures ∙ ap record_of c.before.values-in.ensures

@@ -6,6 +6,7 @@ use Prim.Native.Nat.{ℕ, ◌<◌}
 use native.Mathlib.Omega.{arith}
 use lib.Dec.{eqb}
 use borrow.Author.Tests.{eqb-true}
+use borrow.Author.Rules.{rules}
 use Rattle.laws.proofs.Runs.{NoneOf, is_in, no_key, run_lem}
 use Rattle.laws.proofs.Tests.{either}
 use Rattle.layout.specs.StoredForm.{stored_form, width_at}
@@ -14,25 +15,22 @@ use Rattle.layout.proofs.size_of.Tie as tie
 
 -- the keys of the arms, the last arm first
 abbrev keys : List (List ℕ)
-keys = (11 ∷ 14 ∷ []) ∷ (9 ∷ 12 ∷ []) ∷ []
+keys = (11 ∷ []) ∷ (9 ∷ 12 ∷ []) ∷ []
 
 -- a field that is no key takes four bytes
 abbrev is_four : ℕ → Bool
 is_four i = eqb 4 (width_at stored_form i)
 
-four : (i : ℕ) → i < 15 → NoneOf keys i → 4 ≡ width_at stored_form i
+four : (i : ℕ) → i < 13 → NoneOf keys i → 4 ≡ width_at stored_form i
 four i h none =
     ⊎_elim (λ (e : is_in keys i ≡ true). absurd (no_key keys i none e)) (λ (e : is_four i ≡ true). eqb-true 4 (width_at stored_form i) e)
-    (either (is_in keys i) (is_four i) (run_lem (λ k. is_in keys k || is_four k) 0 15 refl i (omega arith) (omega arith)))
+    (either (is_in keys i) (is_four i) (run_lem (λ k. is_in keys k || is_four k) 0 13 refl i (omega arith) (omega arith)))
 
 returns : tie.Need-returns
 returns c = ⊎_elim (λ (e : c.before.args.i ≡ 9). rw e) (λ (e : c.before.args.i ≡ 12). rw e) c.match.keys1
-
-returns-2 : tie.Need-returns-2
-returns-2 c = ⊎_elim (λ (e : c.before.args.i ≡ 11). rw e) (λ (e : c.before.args.i ≡ 14). rw e) c.match.keys2
 
 returns-3 : tie.Need-returns-3
 returns-3 c = four c.before.args.i c.before.requires c.match.rest
 
 pub size-of-spec : {M : Type 1} → statement M
-size-of-spec = tie.close (tie.spec returns returns-2 returns-3)
+size-of-spec = tie.close (tie.spec returns (λ c. search rules) returns-3)

@@ -12,10 +12,10 @@ use Rattle.layout.proofs.values_in.Tie as tie
 
 abbrev invariant-loop : tie.invariant-loop
 invariant-loop bytes values₀ at₀ i₀ values at i =
-    (i ≤ 15) × (at ≡ length_of (take i stored_form)) × (length values ≡ 15) × (take i values ≡ decode (take i stored_form) bytes)
+    (i ≤ 13) × (at ≡ length_of (take i stored_form)) × (length values ≡ 13) × (take i values ≡ decode (take i stored_form) bytes)
 
 abbrev decreases-loop : tie.decreases-loop
-decreases-loop bytes values₀ at₀ i₀ values at i = 15 - i
+decreases-loop bytes values₀ at₀ i₀ values at i = 13 - i
 
 loop-holds : tie.Need-loop-init invariant-loop decreases-loop
 loop-holds c = (omega arith, refl, refl, refl)

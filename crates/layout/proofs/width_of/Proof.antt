@@ -16,7 +16,7 @@ returns c = c.width.ensures ∙ c.before.type_size.ensures
 
 returns-2 : tie.Need-returns-2
 returns-2 c =
-    let past : 15 ≤ c.before.args.i = omega arith in
+    let past : 13 ≤ c.before.args.i = omega arith in
     ap (λ (f : Field). f.width) (sym (get_or-eq_default stored_form (field 0 any_value any_value as_is) past))
 
 pub width-of-spec : {M : Type 1} → statement M

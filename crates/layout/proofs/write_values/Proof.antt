@@ -12,10 +12,10 @@ use Rattle.layout.proofs.write_values.Tie as tie
 
 abbrev invariant-loop : tie.invariant-loop
 invariant-loop room₀ values at₀ i₀ room at i =
-    (i ≤ 15) × (at ≡ length_of (take i stored_form)) × (take at room ≡ encode (take i stored_form) values) × (length room ≡ length room₀)
+    (i ≤ 13) × (at ≡ length_of (take i stored_form)) × (take at room ≡ encode (take i stored_form) values) × (length room ≡ length room₀)
 
 abbrev decreases-loop : tie.decreases-loop
-decreases-loop room₀ values at₀ i₀ room at i = 15 - i
+decreases-loop room₀ values at₀ i₀ room at i = 13 - i
 
 loop-holds : tie.Need-loop-init invariant-loop decreases-loop
 loop-holds c = (omega arith, refl, refl, refl)

@@ -2,7 +2,6 @@ use mathlib.Core.Path.{◌∙◌}
 use Rattle.platform.specs.Programs.{program_of, setting_of}
 use Rattle.plain.proofs.Calls.{refused_call, accepted_call}
 use Rattle.instruction.specs.Instructions.{instruction_of}
-use Rattle.asking.specs.Asking.{own_of}
 use Rattle.machine.proofs.Laws.{page_accepted}
 use borrow.Author.Rules.{rules}
 use Rattle.machine.proofs.run.Statement.{statement}
@@ -14,7 +13,6 @@ returns c =
     refused_call (instruction_of (setting_of (program_of s.page.now s.platform) s.external.now s.window)) s.budget s.r s.ram.now c.before.before.before.verdict-of.result _ c.before.before.before.verdict-of.ensures _ c.before.verdict.given.1
 
 returns-2 : tie.Need-returns-2
-unfolding instruction_of own_of
 returns-2 c =
     let s = c.before.before.before.before.before.before.before.before.before.before.before.args in
     let setting = setting_of (program_of s.page.now s.platform) s.external.now s.window in

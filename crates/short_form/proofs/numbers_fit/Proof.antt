@@ -16,10 +16,10 @@ use Rattle.short_form.proofs.numbers_fit.Tie as tie
 
 abbrev invariant-loop : tie.invariant-loop
 invariant-loop numbers kind at₀ i₀ at i =
-    (i ≤ 15) × (at ≡ length_of (take i stored_form)) × (decision (field_rules number_fits 7 kind at (drop i stored_form) (drop i numbers)) ≡ decision (number_rules numbers))
+    (i ≤ 13) × (at ≡ length_of (take i stored_form)) × (decision (field_rules number_fits 7 kind at (drop i stored_form) (drop i numbers)) ≡ decision (number_rules numbers))
 
 abbrev decreases-loop : tie.decreases-loop
-decreases-loop numbers kind at₀ i₀ at i = 15 - i
+decreases-loop numbers kind at₀ i₀ at i = 13 - i
 
 loop-holds : tie.Need-loop-init invariant-loop decreases-loop
 loop-holds c = (omega arith, refl, refl)
@@ -48,7 +48,7 @@ loop-again c =
 
 returns-2 : tie.Need-returns-2 invariant-loop decreases-loop
 returns-2 c =
-    let e : c.before.loop.i ≡ 15 = omega arith in
+    let e : c.before.loop.i ≡ 13 = omega arith in
     rw e at c.before.loop.invariant.2
 
 pub numbers-fit-spec : {M : Type 1} → statement M

@@ -11,10 +11,10 @@ use Rattle.short_form.proofs.values_for.Statement.{statement}
 use Rattle.short_form.proofs.values_for.Tie as tie
 
 abbrev invariant-loop : tie.invariant-loop
-invariant-loop numbers values₀ i₀ values i = (i ≤ 15) × (length values ≡ 15) × (take i values ≡ take i numbers)
+invariant-loop numbers values₀ i₀ values i = (i ≤ 13) × (length values ≡ 13) × (take i values ≡ take i numbers)
 
 abbrev decreases-loop : tie.decreases-loop
-decreases-loop numbers values₀ i₀ values i = 15 - i
+decreases-loop numbers values₀ i₀ values i = 13 - i
 
 loop-holds : tie.Need-loop-init invariant-loop decreases-loop
 loop-holds c = (omega arith, refl, refl)

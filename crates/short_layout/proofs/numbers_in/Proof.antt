@@ -22,10 +22,10 @@ use Rattle.short_layout.proofs.numbers_in.Tie as tie
 
 abbrev invariant-loop : tie.invariant-loop
 invariant-loop bytes numbers₀ at₀ i₀ numbers at i =
-    (i ≤ 15) × (at ≤ length bytes) × (length numbers ≡ 15) × (numbers_behind (drop i stored_form) (take i numbers) (drop at bytes) ≡ numbers_in bytes)
+    (i ≤ 13) × (at ≤ length bytes) × (length numbers ≡ 13) × (numbers_behind (drop i stored_form) (take i numbers) (drop at bytes) ≡ numbers_in bytes)
 
 abbrev decreases-loop : tie.decreases-loop
-decreases-loop bytes numbers₀ at₀ i₀ numbers at i = 15 - i
+decreases-loop bytes numbers₀ at₀ i₀ numbers at i = 13 - i
 
 loop-holds : tie.Need-loop-init invariant-loop decreases-loop
 unfolding numbers_in

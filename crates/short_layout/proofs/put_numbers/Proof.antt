@@ -14,10 +14,10 @@ use Rattle.short_layout.proofs.put_numbers.Statement.{statement}
 use Rattle.short_layout.proofs.put_numbers.Tie as tie
 
 abbrev invariant-loop : tie.invariant-loop
-invariant-loop bytes₀ numbers kind at₀ i₀ bytes at i = Puts bytes₀ 0 (bytes_for (take i stored_form) [] numbers) at bytes × (i ≤ 15)
+invariant-loop bytes₀ numbers kind at₀ i₀ bytes at i = Puts bytes₀ 0 (bytes_for (take i stored_form) [] numbers) at bytes × (i ≤ 13)
 
 abbrev decreases-loop : tie.decreases-loop
-decreases-loop bytes₀ numbers kind at₀ i₀ bytes at i = 15 - i
+decreases-loop bytes₀ numbers kind at₀ i₀ bytes at i = 13 - i
 
 loop-holds : tie.Need-loop-init invariant-loop decreases-loop
 unfolding bytes_for
@@ -33,7 +33,7 @@ loop-again c =
 returns : tie.Need-returns invariant-loop decreases-loop
 unfolding short_bytes
 returns c =
-    let e : c.before.loop.i ≡ 15 = omega arith in
+    let e : c.before.loop.i ≡ 13 = omega arith in
     rw e at c.before.loop.invariant.0
 
 same_length : tie.Need-same-length invariant-loop decreases-loop

@@ -1,2 +1,0 @@
-pub mod ImageInstructions
-pub mod ImageFitness

@@ -1,1 +1,0 @@
-// No code: the definition of an instruction in an image, and what it keeps.
