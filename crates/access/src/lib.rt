@@ -1,4 +1,5 @@
 // What loads and stores do to registers and RAM, and which fault they meet; never the place.
+#![tactic(auto)]
 ghost use Rattle.std.specs.Prelude.{◌≡◌};
 ghost use Rattle.access.specs.Outcomes.{load_to, store_with, did_of, Does, DoesAny};
 ghost use Rattle.access.specs.LoadsAndStores.{stack_loaded, stack_stored, after_stack_store, literal_loaded, loaded_base, load_at, store_at, store_base, load_base, load_signed, accessed};
@@ -11,7 +12,7 @@ use window::Window;
 use writing::{Write, Writes};
 
 // What an instruction comes to: what it writes, or the fault that it meets.
-#[derive(Drop)]
+#[derive(Clone, Copy)]
 pub enum Did {
     Writes(Writes),
     Fails(Fault),

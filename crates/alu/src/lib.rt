@@ -1,4 +1,5 @@
 // The manual's data-processing operations: operand values and the flags give a value and the flags with it.
+#![tactic(auto)]
 ghost use Rattle.std.specs.Prelude.{◌≡◌};
 ghost use Rattle.alu.specs.Operations as operations;
 
@@ -6,7 +7,7 @@ use arm::{Flags, Sum};
 use words::Shifted;
 
 // A value, and the flags with it.
-#[derive(Drop)]
+#[derive(Clone, Copy)]
 pub struct Valued {
     pub value: u32,
     pub flags: Flags,

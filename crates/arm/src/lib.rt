@@ -1,4 +1,5 @@
 // Flags: sums with carry and overflow, the flags of a result, conditions.
+#![tactic(auto)]
 ghost use Rattle.std.specs.Prelude.{◌≡◌};
 ghost use Rattle.arm.specs.Sums.{add_with_carry};
 ghost use Rattle.arm.specs.Flags.{with_nz, with_nzc, with_nzcv};
@@ -7,7 +8,7 @@ ghost use Rattle.arm.specs.Conditions.{condition_holds};
 use words::Shifted;
 
 // The condition flags.
-#[derive(Drop)]
+#[derive(Clone, Copy)]
 pub struct Flags {
     pub n: bool,
     pub z: bool,
@@ -16,7 +17,7 @@ pub struct Flags {
 }
 
 // What AddWithCarry gives.
-#[derive(Drop)]
+#[derive(Clone, Copy)]
 pub struct Sum {
     pub value: u32,
     pub carry: bool,

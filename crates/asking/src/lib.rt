@@ -1,4 +1,5 @@
 // Which call, tail call or return a service asks of an image.
+#![tactic(auto)]
 ghost use Rattle.std.specs.Prelude.{◌≡◌};
 ghost use Rattle.asking.specs.Asking.{asked_by, asked_in};
 
@@ -6,7 +7,7 @@ use isa::Instruction;
 use literal::Service;
 
 // What is asked for; a call of either kind by its word.
-#[derive(Drop)]
+#[derive(Clone, Copy)]
 pub enum Asked {
     NoTransfer,
     Call(u32),

@@ -1,4 +1,5 @@
 // Where a branch goes: signed offsets added to a place.
+#![tactic(auto)]
 ghost use Rattle.std.specs.Prelude.{◌≡◌, ◌^◌, ◌<◌, pos};
 ghost use Rattle.std.specs.Int.Signed.{mag};
 ghost use Rattle.bits.specs.Fields.{bits};
@@ -6,7 +7,7 @@ ghost use Rattle.bits.specs.Integers.{SInt};
 ghost use Rattle.branch.specs.Branches.{bundle_at, target_of};
 
 // The bundle that a branch goes to, or that it has none.
-#[derive(Drop)]
+#[derive(Clone, Copy)]
 pub enum Target {
     Bad,
     At(u32),

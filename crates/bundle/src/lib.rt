@@ -1,4 +1,5 @@
 // The successors of a bundle, and the reader.
+#![tactic(auto)]
 ghost use Rattle.std.specs.Prelude.{◌≡◌, List, ℕ, ◌<◌};
 ghost use Rattle.prefix.specs.Prefix.{goes};
 ghost use Rattle.prefix.specs.LargestSuccessor.{largest_successor, reading_of};
@@ -13,7 +14,7 @@ use prefix::LargestSuccessor;
 use refusal::{Refusal, Verdict};
 
 // What the reader answers.
-#[derive(Drop)]
+#[derive(Clone, Copy)]
 pub struct Read {
     pub verdict: Verdict,
     pub largest: LargestSuccessor,

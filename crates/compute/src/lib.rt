@@ -1,4 +1,5 @@
 // What a data-processing instruction writes: each is found here by its encoding.
+#![tactic(auto)]
 ghost use Rattle.std.specs.Prelude.{◌≡◌};
 ghost use Rattle.state.specs.Record.{register_in};
 ghost use Rattle.compute.specs.Computed as definitions;
@@ -11,7 +12,7 @@ use words::immediate_amount;
 use writing::Write;
 
 // One register at most, and the flags.
-#[derive(Drop)]
+#[derive(Clone, Copy)]
 pub struct Computed {
     pub register: Write,
     pub flags: Flags,

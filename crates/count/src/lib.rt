@@ -1,4 +1,5 @@
 // The count of a program: its greatest closed prefix, in a single pass from the last bundle back.
+#![tactic(auto)]
 ghost use Rattle.std.specs.Prelude.{◌≡◌};
 ghost use Rattle.platform.specs.Programs.{program_of};
 ghost use Rattle.count.specs.Count.{count_program, seen_count};
@@ -6,7 +7,7 @@ ghost use Rattle.count.specs.Count.{count_program, seen_count};
 use platform::Platform;
 use refusal::Verdict;
 
-#[derive(Drop)]
+#[derive(Clone, Copy)]
 pub struct Counted {
     pub verdict: Verdict,
     pub count: u32,

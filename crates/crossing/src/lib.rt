@@ -1,4 +1,5 @@
 // The answers of the library's calls in numbers, as C has them.
+#![tactic(auto)]
 ghost use Rattle.std.specs.Prelude.{◌≡◌, get_or};
 ghost use Rattle.refusal.specs.Refusals.{carried_values, decision_of};
 ghost use Rattle.prefix.specs.LargestSuccessor.{reading_of};
@@ -13,7 +14,7 @@ use refusal::{Carried, Verdict};
 use stop::Stop;
 
 // A stop: 0 or a refusal's number, the kind, what the kind carries, and the position that a refusal carries.
-#[derive(Drop)]
+#[derive(Clone, Copy)]
 pub struct StopNumbers {
     pub code: u32,
     pub kind: u32,
@@ -23,7 +24,7 @@ pub struct StopNumbers {
 }
 
 // What a service exit asks of the host; 0 where the kind carries none.
-#[derive(Drop)]
+#[derive(Clone, Copy)]
 pub struct ExitNumbers {
     pub kind: u32,
     pub number: u32,

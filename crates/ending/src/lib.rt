@@ -1,4 +1,5 @@
 // Exits and terminators among the services, for the reader and the machine alike.
+#![tactic(auto)]
 ghost use Rattle.std.specs.Prelude.{◌≡◌};
 ghost use Rattle.platform.specs.Programs.{program_of};
 ghost use Rattle.ending.specs.Endings.{ending_of, last_syscall, ending_on, ending_in};
@@ -8,7 +9,7 @@ use platform::Platform;
 
 // How the flow goes on at a service: it just goes on; the run ends, and would go on behind it; the run ends at a
 // terminator; the service is bad.
-#[derive(Drop)]
+#[derive(Clone, Copy)]
 pub enum Ending {
     GoesOn,
     Exit,

@@ -1,4 +1,5 @@
 // One instruction as code: how it ends, what it writes and where the run then stands. Data processing is the run's own.
+#![tactic(auto)]
 ghost use Rattle.std.specs.Prelude.{◌≡◌, ◌<◌, eqb, pos, not};
 ghost use Rattle.platform.specs.Programs.{program_of, setting_of};
 ghost use Rattle.bits.specs.Fields.{bits};
@@ -22,7 +23,7 @@ use window::Window;
 use writing::Writes;
 
 // How an instruction ended.
-#[derive(Drop)]
+#[derive(Clone, Copy)]
 pub enum End {
     GoesOn,
     // at a service: its low byte
@@ -35,7 +36,7 @@ pub enum End {
 }
 
 // What an instruction comes to: its end, what it writes, and the place where the run then stands.
-#[derive(Drop)]
+#[derive(Clone, Copy)]
 pub struct Executed {
     pub end: End,
     pub writes: Writes,

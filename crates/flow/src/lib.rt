@@ -1,4 +1,5 @@
 // Terminators, and how the flow goes on at an instruction.
+#![tactic(auto)]
 ghost use Rattle.std.specs.Prelude.{◌≡◌};
 ghost use Rattle.platform.specs.Programs.{program_of};
 ghost use Rattle.flow.specs.Flow.{jump_to, service_jump, jump_of, flow_by, flow_of};
@@ -10,7 +11,7 @@ use isa::Instruction;
 use platform::Platform;
 
 // Where an instruction may go beside what stands behind it: it is bad; nowhere; to a bundle.
-#[derive(Drop)]
+#[derive(Clone, Copy)]
 pub enum Jump {
     Bad,
     NoJump,
@@ -19,7 +20,7 @@ pub enum Jump {
 
 // How the flow goes on at an instruction: not at all, since it is bad; to the next; to the next or a bundle; to a
 // bundle only; nowhere in the page.
-#[derive(Drop)]
+#[derive(Clone, Copy)]
 pub enum Flow {
     Bad,
     Next,

@@ -1,4 +1,5 @@
 // Storing a record and reading it back: 44 bytes, and the range of each value.
+#![tactic(auto)]
 ghost use Rattle.std.specs.Prelude.{◌≡◌};
 ghost use Rattle.layout.specs.StoredForm.{offset_in_range, range_rules};
 ghost use Rattle.refusal.specs.Refusals.{decision, decision_of};
@@ -8,7 +9,7 @@ use refusal::{Refusal, Verdict};
 use state::Record;
 
 // What reading back answers.
-#[derive(Drop)]
+#[derive(Clone, Copy)]
 pub struct ReadBack {
     pub verdict: Verdict,
     pub loaded: Record,

@@ -1,4 +1,5 @@
 // Frames on the stack, as source document 002 has them: eight words, written and read as one access of 32 bytes.
+#![tactic(auto)]
 ghost use Rattle.std.specs.Prelude.{◌*◌, ◌<◌, ◌≡◌};
 ghost use Rattle.endian.specs.LittleEndian.{load_le};
 ghost use Rattle.memory.specs.Memory.{ram_access, after_if};
@@ -11,7 +12,7 @@ use memory::{Attempt, Fault, Loaded};
 use window::Window;
 
 // What is read of a frame: its words; where a fault is met, zeros.
-#[derive(Drop)]
+#[derive(Clone, Copy)]
 pub struct Saved {
     pub met: Attempt,
     pub words: [u32; 8],

@@ -1,4 +1,5 @@
 // Steps and runs for a host: a record comes as its bytes and goes back to them, and a stop is told by numbers.
+#![tactic(auto)]
 ghost use Rattle.std.specs.Prelude.{◌≡◌};
 ghost use Rattle.refusal.specs.Refusals.{when_accepted, decision_of};
 ghost use Rattle.platform.specs.Programs.{program_of, setting_of};
@@ -17,7 +18,7 @@ use refusal::Verdict;
 use window::Window;
 
 // What a host is told of a step or a run, beside record and RAM.
-#[derive(Drop)]
+#[derive(Clone, Copy)]
 pub struct Hosted {
     pub stop: StopNumbers,
     pub steps: u32,

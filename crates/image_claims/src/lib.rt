@@ -1,1 +1,2 @@
 // No code: what is claimed of images, and its proofs.
+#![tactic(auto)]

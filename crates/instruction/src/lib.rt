@@ -1,1 +1,2 @@
 // No code: the definition of an instruction, and what it keeps.
+#![tactic(auto)]

@@ -1,10 +1,11 @@
 // The instructions, and which halfwords open a 32-bit one. The listed encodings are in `specs`.
+#![tactic(auto)]
 ghost use Rattle.std.specs.Prelude.{◌≡◌};
 ghost use Rattle.isa.specs.ListedEncodings.{opens32};
 
 // A data-processing instruction. Its operands are raw fields, in the order of their bits, highest first: d, n, m and t are
 // register numbers.
-#[derive(Drop)]
+#[derive(Clone, Copy)]
 pub enum Operation {
     // imm5, m, d
     LslImm(u8, u8, u8),
@@ -56,7 +57,7 @@ pub enum Operation {
 }
 
 // A load or a store.
-#[derive(Drop)]
+#[derive(Clone, Copy)]
 pub enum Access {
     // t, imm8
     LdrLit(u8, u8),
@@ -75,7 +76,7 @@ pub enum Access {
 }
 
 // What stands at a place. The operands are raw fields, in the order of their bits.
-#[derive(Drop)]
+#[derive(Clone, Copy)]
 pub enum Instruction {
     Data(Operation),
     Memory(Access),

@@ -1,4 +1,5 @@
 // Halfwords to instructions: the listed 16-bit encodings and no others.
+#![tactic(auto)]
 ghost use Rattle.std.specs.Prelude.{◌≡◌, ◌/◌, ◌^◌};
 ghost use Rattle.isa.specs.ListedEncodings.{decode16_of};
 ghost use Rattle.isa16.specs.Classes.{class_of, operands_of};
@@ -6,7 +7,7 @@ ghost use Rattle.isa16.specs.Classes.{class_of, operands_of};
 use isa::{Access, Instruction, Operation};
 
 // The fields of the 16-bit encodings, named by their bits.
-#[derive(Drop)]
+#[derive(Clone, Copy)]
 struct Operands {
     low3: u8,
     mid3: u8,

@@ -1,8 +1,9 @@
 // The services, and what a literal word means of them.
+#![tactic(auto)]
 ghost use Rattle.std.specs.Prelude.{◌≡◌};
 ghost use Rattle.literal.specs.Literals.{literal_of, call_of, syscall_of, address_operation_of};
 
-#[derive(Drop)]
+#[derive(Clone, Copy)]
 pub enum Service {
     Return,
     // by the literal word: address, words that SP is to be lowered by

@@ -1,4 +1,5 @@
 // A step, and a run with a budget.
+#![tactic(auto)]
 ghost use Rattle.std.specs.Prelude.{◌≡◌, ◌≤◌, length};
 ghost use Rattle.platform.specs.Programs.{program_of, setting_of};
 ghost use Rattle.plain.specs.PlainMachine.{plain};
@@ -15,7 +16,7 @@ use window::Window;
 use writing::Write;
 
 // What a run gives.
-#[derive(Drop)]
+#[derive(Clone, Copy)]
 pub struct Answer {
     pub stop: Stop,
     pub steps: u32,

@@ -1,4 +1,5 @@
 // Loads and stores: RAM, the external page, and by a base.
+#![tactic(auto)]
 ghost use Rattle.std.specs.Prelude.{◌≡◌, min, ◌*◌, ◌%◌, ◌^◌};
 ghost use Rattle.words.specs.Bitwise.{sign_extended};
 ghost use Rattle.endian.specs.LittleEndian.{width_of};
@@ -10,7 +11,7 @@ use state::Base;
 use window::Window;
 
 // The papers' faults, in the order of their numbers, 1 to 10.
-#[derive(Drop)]
+#[derive(Clone, Copy)]
 pub enum Fault {
     NoBase,
     PastRam,
@@ -24,14 +25,14 @@ pub enum Fault {
     UnfitFrame,
 }
 
-#[derive(Drop)]
+#[derive(Clone, Copy)]
 pub enum Loaded {
     Value(u32),
     Fails(Fault),
 }
 
 // What an attempt at an access comes to.
-#[derive(Drop)]
+#[derive(Clone, Copy)]
 pub enum Attempt {
     Done,
     Fails(Fault),

@@ -1,9 +1,10 @@
 // The bytes of a page, as bytes, halfwords and words.
+#![tactic(auto)]
 ghost use Rattle.std.specs.Prelude.{◌≡◌, ◌+◌, ◌*◌};
 ghost use Rattle.page.specs.Page.{first_of, second_of, word_at, page_fits};
 
 // The two halfwords of a bundle.
-#[derive(Drop)]
+#[derive(Clone, Copy)]
 pub struct Halves {
     pub first: u16,
     pub second: u16,

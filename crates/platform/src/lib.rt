@@ -1,4 +1,5 @@
 // What a host says of its machine, and what of a program is refused.
+#![tactic(auto)]
 ghost use Rattle.std.specs.Prelude.{◌≡◌};
 ghost use Rattle.refusal.specs.Refusals.{decision, decision_of};
 ghost use Rattle.isa.specs.Profiles.{profile_of, is_known};
@@ -7,7 +8,7 @@ ghost use Rattle.platform.specs.Programs.{program_of, program_rules};
 
 use refusal::{Refusal, Verdict};
 
-#[derive(Drop)]
+#[derive(Clone, Copy)]
 pub struct Platform {
     // bit n: direct syscall n never returns
     pub never_return: u64,

@@ -1,9 +1,10 @@
 // Why a call is refused.
+#![tactic(auto)]
 ghost use Rattle.std.specs.Prelude.{◌≡◌};
 ghost use Rattle.refusal.specs.Refusals.{when_accepted, refusal_number, refusal_values, carried_values, decision_of};
 
 // The papers' refusals, in the order of their numbers; the last is the library's own.
-#[derive(Drop)]
+#[derive(Clone, Copy)]
 pub enum Refusal {
     PageLength,
     RamLength,
@@ -30,14 +31,14 @@ pub enum Refusal {
 }
 
 // A call's answer to what it was handed.
-#[derive(Drop)]
+#[derive(Clone, Copy)]
 pub enum Verdict {
     Accepted,
     Refused(Refusal),
 }
 
 // What a refusal carries beside its number.
-#[derive(Drop)]
+#[derive(Clone, Copy)]
 pub enum Carried {
     Nothing,
     // the position of a byte in the stored form

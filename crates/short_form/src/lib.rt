@@ -1,4 +1,5 @@
 // A record in the short stored form: the range of each number, refusals, and the room.
+#![tactic(auto)]
 ghost use Rattle.std.specs.Prelude.{◌≡◌, ℕ, ◌<◌, ◌≤◌, ◌^◌, [], ◌∷◌, length, get_or};
 ghost use Rattle.refusal.specs.Refusals.{decision, decision_of};
 ghost use Rattle.layout.specs.StoredForm.{stored_form, field_at};
@@ -12,7 +13,7 @@ use refusal::{Refusal, Verdict};
 use state::Record;
 
 // What writing answers: the length of the form, 0 where it is refused.
-#[derive(Drop)]
+#[derive(Clone, Copy)]
 pub struct Packed {
     pub verdict: Verdict,
     pub length: usize,

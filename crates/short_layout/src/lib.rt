@@ -1,4 +1,5 @@
 // Thirteen numbers to the bytes of the short stored form and back. The offset is left out for base kind 0.
+#![tactic(auto)]
 ghost use Rattle.std.specs.Prelude.{◌≡◌, ◌<◌};
 ghost use Rattle.layout.specs.StoredForm.{stored_form, field_at};
 ghost use Rattle.text.specs.Text.{Puts};
@@ -8,7 +9,7 @@ ghost use Rattle.short_layout.specs.ShortForm.{is_there, field_bytes, short_byte
 use leb128::Found;
 
 // Whether bytes are a short form's numbers, and those; all 0 where they aren't.
-#[derive(Drop)]
+#[derive(Clone, Copy)]
 pub struct InGroups {
     pub grouped: bool,
     pub numbers: [u64; 13],

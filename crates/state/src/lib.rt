@@ -1,4 +1,5 @@
 // The record of the machine, by value, and base validation.
+#![tactic(auto)]
 ghost use Rattle.std.specs.Prelude.{[], ◌∷◌, ◌≡◌, cond, ltb, length, set};
 ghost use Rattle.refusal.specs.Refusals.{decision, decision_of};
 ghost use Rattle.state.specs.Record.{register_in, register, with_register, with_sp, with_flags, with_place, with_base, fresh_record};
@@ -9,7 +10,7 @@ use arm::Flags;
 use refusal::{Refusal, Verdict};
 
 // The build paper's base, by which loads and stores go: none, an offset in RAM, or an offset in the external data.
-#[derive(Drop)]
+#[derive(Clone, Copy)]
 pub enum Base {
     Nothing,
     Ram(u32),
@@ -17,7 +18,7 @@ pub enum Base {
 }
 
 // The build paper's record.
-#[derive(Drop)]
+#[derive(Clone, Copy)]
 pub struct Record {
     pub regs: [u32; 8],
     pub sp: u32,
@@ -28,7 +29,7 @@ pub struct Record {
 }
 
 // What base validation answers.
-#[derive(Drop)]
+#[derive(Clone, Copy)]
 pub struct Validated {
     pub verdict: Verdict,
     pub base: Base,

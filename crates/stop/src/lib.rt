@@ -1,8 +1,9 @@
 // Why a run stopped.
+#![tactic(auto)]
 use memory::Fault;
 use refusal::Refusal;
 
-#[derive(Drop)]
+#[derive(Clone, Copy)]
 pub enum Stop {
     // all of the budget is spent
     Budget,

@@ -1,12 +1,13 @@
 // Standard input and standard output. Each read or write that fails is told on standard error, in words after the program's name.
 // What the system gives or takes is open, so the promises are bounds: no more bytes than there is room for, or than a text has.
 // A call that a signal interrupts before it moves a byte counts as one that failed.
+#![tactic(auto)]
 ghost use Rattle.std.specs.Prelude.{ℕ, ◌≤◌, ◌≡◌, length};
 
 use libc::{STDERR_FILENO, STDIN_FILENO, STDOUT_FILENO};
 
 // How many bytes were read, or that a read failed.
-#[derive(Drop)]
+#[derive(Clone, Copy)]
 pub enum Input {
     Bytes(usize),
     Failed,

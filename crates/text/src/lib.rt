@@ -1,4 +1,5 @@
 // Text as bytes: it is made in a buffer, piece by piece, and then goes whole to lent room. No call asks anything of its caller.
+#![tactic(auto)]
 ghost use Rattle.std.specs.Prelude.{◌≡◌, [], ◌∷◌, ◌++◌, ◌<◌, length, take};
 ghost use Rattle.text.specs.Digits.{digit, hex, decimal};
 ghost use Rattle.text.specs.Room.{written_of, placed, bytes_written};
@@ -85,7 +86,7 @@ pub fn number_line(text: &mut [u8], at: usize, word: &[u8], x: u32) -> usize
 // ---- lent room
 
 // How many bytes were written at the start of the room, or that it was too small.
-#[derive(Drop)]
+#[derive(Clone, Copy)]
 pub enum Written {
     Bytes(usize),
     NoRoom,

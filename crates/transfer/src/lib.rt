@@ -1,4 +1,5 @@
 // Calls, tail calls and returns between the pages of an image: how they move SP, FP, page and place, and the frame on the stack.
+#![tactic(auto)]
 ghost use Rattle.std.specs.Prelude.{◌+◌, ◌-◌, ◌*◌, ◌^◌, ◌<◌, ◌≤◌, ◌≡◌};
 ghost use Rattle.literal.specs.Literals.{call_address, call_words};
 ghost use Rattle.image.specs.Images.{image_of};
@@ -11,7 +12,7 @@ use platform::Platform;
 use window::Window;
 
 // What a transfer moves: SP and FP on the stack, and the page and place where the run stands.
-#[derive(Drop)]
+#[derive(Clone, Copy)]
 pub struct Linkage {
     pub sp: u32,
     pub fp: u32,
@@ -20,7 +21,7 @@ pub struct Linkage {
 }
 
 // How it ends.
-#[derive(Drop)]
+#[derive(Clone, Copy)]
 pub enum Met {
     Moves,
     // nothing moves between pages: the instruction is its page's
@@ -29,7 +30,7 @@ pub enum Met {
 }
 
 // What a transfer comes to. Where nothing moves, linkage and registers are the given ones.
-#[derive(Drop)]
+#[derive(Clone, Copy)]
 pub struct Transferred {
     pub met: Met,
     pub linkage: Linkage,

@@ -1,4 +1,5 @@
 // Writes the stored form of a record whose short form is read as raw bytes from standard input.
+#![tactic(auto)]
 use streams::Input;
 
 fn main() {

@@ -1,4 +1,5 @@
 // 02's window of RAM: what of it a run may read and write.
+#![tactic(auto)]
 ghost use Rattle.std.specs.Prelude.{[], ◌∷◌, ◌≡◌};
 ghost use Rattle.refusal.specs.Refusals.{decision, decision_of};
 ghost use Rattle.window.specs.Windows.{whole_ram, window_rule, inside_window};
@@ -6,7 +7,7 @@ ghost use Rattle.window.specs.Windows.{whole_ram, window_rule, inside_window};
 use refusal::{Refusal, Verdict};
 
 // Offsets in RAM, from the start to below the end.
-#[derive(Drop)]
+#[derive(Clone, Copy)]
 pub struct Window {
     pub start: u32,
     pub end: u32,

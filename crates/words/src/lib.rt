@@ -1,5 +1,6 @@
 // Operations of the manual's pseudocode on words, without flags: shifts with carry out, multiplication and division, bitwise
 // operations, extension.
+#![tactic(auto)]
 ghost use Rattle.std.specs.Prelude.{◌≡◌, min, ◌^◌, ◌<◌, nat_abs};
 ghost use Rattle.std.specs.Int.Bits.{bit_and, bit_or, bit_xor};
 ghost use Rattle.std.specs.Int.Signed.{mag, shr_z, quot_z};
@@ -9,7 +10,7 @@ ghost use Rattle.words.specs.Products.{product, unsigned_quotient, signed_quotie
 ghost use Rattle.words.specs.Bitwise.{not_word, sign_extended};
 
 // What a shift with carry out gives.
-#[derive(Drop)]
+#[derive(Clone, Copy)]
 pub struct Shifted {
     pub value: u32,
     pub carry: bool,

@@ -1,4 +1,5 @@
 // What an instruction writes, and the record afterwards.
+#![tactic(auto)]
 ghost use Rattle.std.specs.Prelude.{◌≡◌};
 ghost use Rattle.writing.specs.Writes as writes;
 
@@ -6,14 +7,14 @@ use arm::Flags;
 use state::{Base, Record};
 
 // The register that an instruction writes: none, or one with its value.
-#[derive(Drop)]
+#[derive(Clone, Copy)]
 pub enum Write {
     NoRegister,
     Register(u8, u32),
 }
 
 // What an instruction writes, its place aside: one register at most, the flags, SP and the base.
-#[derive(Drop)]
+#[derive(Clone, Copy)]
 pub struct Writes {
     pub register: Write,
     pub flags: Flags,

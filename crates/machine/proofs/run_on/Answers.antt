@@ -1,0 +1,101 @@
+use Prim.Native.Nat.{◌-◌, ◌≤◌}
+use native.Mathlib.Nat.{sub-zero}
+use native.Mathlib.Omega.{arith}
+use lib.ListN.{length}
+use mathlib.Core.Logic.{⊎_elim}
+use mathlib.Core.Path.{◌≡◌, refl, sym, ◌∙◌}
+use Rattle.platform.specs.Programs.{program_of, setting_of}
+use Rattle.place.specs.Places.{instruction_at}
+use Rattle.plain.specs.PlainMachine.{plain}
+use Rattle.plain.proofs.Theorems.{spent}
+use Rattle.instruction.specs.Instructions.{instruction_of}
+use Rattle.execution.specs.Executed.{executable}
+use Rattle.execution.proofs.Laws.{behind_near, stands}
+use Rattle.machine.proofs.Laws.{turns, other_tag, data_inside, registered, registered_length, set_written, none_written, data_turn}
+use borrow.Author.Rules.{rules}
+use Rattle.machine.proofs.run_on.Goals as goal
+
+-- what is executed is what stands at the place
+found : (c : goal.After-execute-x)
+    → executable c.loop-steps.r.place c.instruction_at-i.result
+    ≡ instruction_at (program_of c.args.page.now c.args.platform) c.loop-steps.r.place
+found c = stands _ _ _ c.requires c.instruction_at-i.ensures (λ operation e. other_tag (rw e at c.in_default.keys2))
+
+)
+
+pub loop-steps-init : goal.loop-steps-init
+loop-steps-init c = (rw sub-zero, search rules, refl, search rules)
+
+pub overflow_cast-next : goal.overflow_cast-next
+overflow_cast-next c = let h = data_inside _ _ _ (sym c.instruction_at-i.ensures ∙ c.in-Data.is) in omega (arith, h, c.requires, behind_near _ _ _ c.next_place-next.ensures)
+
+pub overflow_add-steps : goal.overflow_add-steps
+overflow_add-steps c = omega arith
+
+pub loop-steps-smaller-in-Data : goal.loop-steps-smaller-in-Data
+loop-steps-smaller-in-Data c = omega arith
+
+pub loop-steps-preserved-in-Data : goal.loop-steps-preserved-in-Data
+loop-steps-preserved-in-Data c = let kept = c.loop-steps.invariant in
+    let r = c.loop-steps.r in
+    let w = c.compute-c.result.register in
+    let written : c.match-register.r ≡ registered r w =
+    ⊎_elim
+    (λ x. x.5 ∙ set_written r w _ _ _ x.1.given.1 kept.3 x.4.ensures)
+    (λ x. x.2 ∙ none_written r w x.1.given.1)
+    c.match-register.branch
+    in (
+      data_turn _ _ _ _ _ _ _ _ _ _ c.loop-steps-test.true (sym c.instruction_at-i.ensures ∙ c.in-Data.is) c.compute-c.ensures c.next_place-next.ensures written kept.0,
+      omega arith,
+      search rules,
+      registered_length r _ w written kept.3,
+    )
+
+pub overflow_add-steps-in-GoesOn : goal.overflow_add-steps-in-GoesOn
+overflow_add-steps-in-GoesOn c = omega (arith, c.loop-steps-test.true, c.ranges)
+
+pub loop-steps-smaller : goal.loop-steps-smaller
+loop-steps-smaller c = omega arith
+
+pub loop-steps-preserved : goal.loop-steps-preserved
+loop-steps-preserved c = (
+  turns _ _ _ _ _ _ _ _ _ _ _ c.loop-steps-test.true (found c) c.execute-x.ensures c.in-GoesOn.is c.applied-r.ensures c.loop-steps.invariant.0,
+  omega arith,
+  c.execute-x.auto.1.1.1.1.1.1.0 ∙ c.loop-steps.invariant.2,
+  search rules,
+
+pub overflow_add-steps-in-Exits : goal.overflow_add-steps-in-Exits
+overflow_add-steps-in-Exits c = omega (arith, c.loop-steps-test.true, c.ranges)
+
+pub shape_of-ram-in-Exits : goal.shape_of-ram-in-Exits
+shape_of-ram-in-Exits c = c.execute-x.auto.1.1.1.1.1.1.0 ∙ c.loop-steps.invariant.2
+
+pub returns-in-Exits : goal.returns-in-Exits
+returns-in-Exits c = rw c.stopped.ensures (turns _ _ _ _ _ _ _ _ _ _ _ c.loop-steps-test.true (found c) c.execute-x.ensures c.in-Exits.is c.applied-r.ensures c.loop-steps.invariant.0)
+
+pub overflow_add-steps-in-ExitsBy : goal.overflow_add-steps-in-ExitsBy
+overflow_add-steps-in-ExitsBy c = omega (arith, c.loop-steps-test.true, c.ranges)
+
+pub shape_of-ram-in-ExitsBy : goal.shape_of-ram-in-ExitsBy
+shape_of-ram-in-ExitsBy c = c.execute-x.auto.1.1.1.1.1.1.0 ∙ c.loop-steps.invariant.2
+
+pub returns-in-ExitsBy : goal.returns-in-ExitsBy
+returns-in-ExitsBy c = rw c.stopped-in-ExitsBy.ensures (turns _ _ _ _ _ _ _ _ _ _ _ c.loop-steps-test.true (found c) c.execute-x.ensures c.in-ExitsBy.is c.applied-r.ensures c.loop-steps.invariant.0)
+
+pub shape_of-ram-in-Fails : goal.shape_of-ram-in-Fails
+shape_of-ram-in-Fails c = c.execute-x.auto.1.1.1.1.1.1.0 ∙ c.loop-steps.invariant.2
+
+pub returns-in-Fails : goal.returns-in-Fails
+returns-in-Fails c = rw c.stopped-in-Fails.ensures (turns _ _ _ _ _ _ _ _ _ _ _ c.loop-steps-test.true (found c) c.execute-x.ensures c.in-Fails.is c.applied-r.ensures c.loop-steps.invariant.0)
+
+pub shape_of-ram-in-Unlisted : goal.shape_of-ram-in-Unlisted
+shape_of-ram-in-Unlisted c = c.execute-x.auto.1.1.1.1.1.1.0 ∙ c.loop-steps.invariant.2
+
+pub returns-in-Unlisted : goal.returns-in-Unlisted
+returns-in-Unlisted c = rw c.stopped-in-Unlisted.ensures (turns _ _ _ _ _ _ _ _ _ _ _ c.loop-steps-test.true (found c) c.execute-x.ensures c.in-Unlisted.is c.applied-r.ensures c.loop-steps.invariant.0)
+
+pub shape_of-ram : goal.shape_of-ram
+shape_of-ram c = omega arith
+
+pub returns : goal.returns
+returns c = rw c.stopped-2.ensures (sym (spent _ _ _ _ _ (omega arith)) ∙ c.loop-steps.invariant.0)

@@ -1,0 +1,7 @@
+use native.Mathlib.Omega.{arith}
+use borrow.Author.Rules.{rules}
+use Rattle.short_form.proofs.Numbers.{numbers_set}
+use Rattle.short_form.proofs.numbers_for.Goals as goal
+
+pub returns : goal.returns
+returns c = numbers_set c.args.t1 (omega arith)

@@ -1,0 +1,17 @@
+-- The loop has put the first i bytes of the piece.
+use Prim.Native.Nat.{◌≤◌, ◌<◌, ◌-◌}
+use native.Mathlib.Numerals.{add-one}
+use native.Mathlib.Omega.{arith}
+use lib.ListN.{length, take}
+use lib.Seq.{take-suc, take_all}
+use borrow.Author.Rules.{rules}
+use Rattle.text.specs.Text.{Puts}
+use Rattle.text.proofs.Laws.{unchanged_lem, keeps_length, ◌then◌}
+use Rattle.text.proofs.put.Given as goal
+
+-- The loop has put the first i bytes of the piece.
+abbrev pub invariant-loop-i : goal.invariant-loop-i
+invariant-loop-i l = Puts l.initial.text l.initial.end (take l.i l.piece) l.end l.text × (l.i ≤ length l.piece)
+
+abbrev pub decreases-loop-i : goal.decreases-loop-i
+decreases-loop-i l = length l.piece - l.i
