@@ -13,7 +13,7 @@ overflow_sub-result c =
 
 pub returns-then-field-eq1 : goal.returns-then-field-eq1
 returns-then-field-eq1 c =
-    to_z-of_z w64 _ (sub-result c)
+    to_z-of_z w64 _ (overflow_sub-result c)
     ∙ less_whole c.args.x c.args.top c.requires.0 c.requires.1
     ∙ with_top c.args.x c.args.top (sym c.field.ensures ∙ c.if-field-eq1.true)
 

@@ -9,10 +9,11 @@ use mir.Val.{to_z, of_z, Fits}
 use mir.ValLaws.{to_z-of_z}
 use Rattle.bits.specs.Integers.{low_word}
 use Rattle.bits.proofs.Integers.{low_lt, more_fits, low_neg, low_pos}
+use Rattle.bits.proofs.wrapped.Goals.{Start}
 use Rattle.bits.proofs.wrapped.Goals as goal
 
 -- what is read back from the bits of z is z
-read : (c : goal.Start) → to_z w64 (of_z w64 c.args.z) ≡ c.args.z
+read : (c : Start) → to_z w64 (of_z w64 c.args.z) ≡ c.args.z
 read c = to_z-of_z w64 c.args.z c.ranges.z
 
 sum : (c : goal.Then-z-lt0) → to_z w64 (of_z w64 c.args.z) +ℤ pos (2 ^ 32) ≡ pos (low_word c.args.z)
@@ -24,11 +25,11 @@ whole c = read c ∙ low_pos c.args.z c.requires (rw (read c) at c.if-z-lt0.fals
 abbrev Word : ℤ → Type 0
 Word z = T (non_neg z) × Fits w32 (nat_abs z)
 
-sum-read : (c : goal.Then-z-lt0) → to_z w64 (of_z w64 (to_z w64 (of_z w64 c.args.z) +ℤ pos (2 ^ 32))) ≡ pos (low_word c.args.z)
-sum-read c = to_z-of_z w64 _ (add-result c) ∙ sum c
-
 pub overflow_add-result : goal.overflow_add-result
 overflow_add-result c = rw (read c) (more_fits c.args.z _ c.requires (lit< tt))
+
+sum-read : (c : goal.Then-z-lt0) → to_z w64 (of_z w64 (to_z w64 (of_z w64 c.args.z) +ℤ pos (2 ^ 32))) ≡ pos (low_word c.args.z)
+sum-read c = to_z-of_z w64 _ (overflow_add-result c) ∙ sum c
 
 pub overflow_cast-result : goal.overflow_cast-result
 overflow_cast-result c = subst⁻¹ Word (sum-read c) (tt, record { fits = low_lt c.args.z })

@@ -4,10 +4,11 @@ use mir.Syntax.{w64}
 use mir.Val.{to_z, of_z}
 use mir.ValLaws.{to_z-of_z}
 use Rattle.branch.proofs.Laws.{before_page, not_before, lands, natural_fits}
+use Rattle.branch.proofs.bundle_at.Goals.{Start}
 use Rattle.branch.proofs.bundle_at.Goals as goal
 
 -- what is read back from the bits of n is n
-whole : (c : goal.Start) → to_z w64 (of_z w64 c.args.n) ≡ c.args.n
+whole : (c : Start) → to_z w64 (of_z w64 c.args.n) ≡ c.args.n
 whole c = to_z-of_z w64 c.args.n c.ranges.n
 
 pub returns-then-n-lt0 : goal.returns-then-n-lt0

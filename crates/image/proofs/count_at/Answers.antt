@@ -2,6 +2,9 @@ use native.Mathlib.Omega.{arith}
 use Rattle.image.proofs.Laws.{page_part}
 use Rattle.image.proofs.count_at.Goals as goal
 
+pub returns : goal.returns
+returns c = rw (c.count_of.ensures, page_part)
+
 pub overflow_mul-at : goal.overflow_mul-at
 overflow_mul-at c = omega arith
 
@@ -16,6 +19,3 @@ slice_bounds-count_of-start c = omega arith
 
 pub slice_bounds-count_of-end : goal.slice_bounds-count_of-end
 slice_bounds-count_of-end c = omega arith
-
-pub returns : goal.returns
-returns c = rw (c.count_of.ensures, page_part)

@@ -5,6 +5,11 @@ use Rattle.image.proofs.Laws.{page_part}
 use Rattle.image_runs.proofs.Theorems.{page_fits_lem}
 use Rattle.image_runs.proofs.run_in.Goals as goal
 
+pub returns : goal.returns
+returns c =
+    let s = c.args in
+    c.run_admitted.ensures ∙ rw (page_part, page_fits_lem s.image.now s.number (omega arith))
+
 pub overflow_mul-at : goal.overflow_mul-at
 overflow_mul-at c = omega arith
 
@@ -19,8 +24,3 @@ slice_bounds-run_admitted-start c = omega arith
 
 pub slice_bounds-run_admitted-end : goal.slice_bounds-run_admitted-end
 slice_bounds-run_admitted-end c = omega arith
-
-pub returns : goal.returns
-returns c =
-    let s = c.args in
-    c.run_admitted.ensures ∙ rw (page_part, page_fits_lem s.image.now s.number (omega arith))

@@ -15,16 +15,16 @@ of_record-requires c =
     let setting = image_setting_of (image_of s.image.now s.index.now s.platform) s.external.now s.window in
     (areas_page setting s.number s.ram.now (sym c.of_areas-areas.ensures ∙ ap decision_of c.in-Accepted.is)).inside
 
-pub returns-in-Refused : goal.returns-in-Refused
-unfolding image_decision
-returns-in-Refused c =
-    let s = c.args in
-    let image = image_of s.image.now s.index.now s.platform in
-    rw (in_turn (image_area_rules (image_setting_of image s.external.now s.window) s.number s.ram.now) (record_rules (program_at image s.number) (byte_of image s.number) (length s.external.now) s.r), ← c.of_areas-areas.ensures, c.in-Refused.is)
-
 pub returns-in-Accepted : goal.returns-in-Accepted
 unfolding image_decision
 returns-in-Accepted c =
     let s = c.args in
     let image = image_of s.image.now s.index.now s.platform in
     rw (in_turn (image_area_rules (image_setting_of image s.external.now s.window) s.number s.ram.now) (record_rules (program_at image s.number) (byte_of image s.number) (length s.external.now) s.r), ← c.of_areas-areas.ensures, c.in-Accepted.is) c.of_record.ensures
+
+pub returns-in-Refused : goal.returns-in-Refused
+unfolding image_decision
+returns-in-Refused c =
+    let s = c.args in
+    let image = image_of s.image.now s.index.now s.platform in
+    rw (in_turn (image_area_rules (image_setting_of image s.external.now s.window) s.number s.ram.now) (record_rules (program_at image s.number) (byte_of image s.number) (length s.external.now) s.r), ← c.of_areas-areas.ensures, c.in-Refused.is)

@@ -3,9 +3,6 @@ use Rattle.text.proofs.Laws.{keeps_length, ◌then◌}
 use Rattle.lister_lines.specs.Lines.{bundle_text}
 use Rattle.lister_lines.proofs.bundle_line.Goals as goal
 
-pub shape_of-text : goal.shape_of-text
-shape_of-text c = keeps_length (returns c)
-
 pub returns : goal.returns
 unfolding bundle_text
 returns c =
@@ -14,3 +11,6 @@ returns c =
     then c.put_hex-at-2.ensures then c.push-at-3.ensures
     then c.put_inside-at.ensures then c.push-at-4.ensures
     then c.put_largest-at.ensures then c.push.ensures
+
+pub shape_of-text : goal.shape_of-text
+shape_of-text c = keeps_length (returns c)

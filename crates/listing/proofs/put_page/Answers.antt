@@ -30,10 +30,10 @@ loop-k-preserved c =
     let page = c.args.page.now in
     (rw (line_more page c.loop-k.k) (c.loop-k.invariant.0 then c.put_bundle-end.ensures), omega arith)
 
-pub shape_of-text : goal.shape_of-text
-shape_of-text c = keeps_length (returns c)
-
 pub returns : goal.returns
 returns c =
     let e : c.loop-k.k ≡ bundles_in c.args.page.now = omega arith in
     c.head_line-end.ensures then rw e at c.loop-k.invariant.0
+
+pub shape_of-text : goal.shape_of-text
+shape_of-text c = keeps_length (returns c)

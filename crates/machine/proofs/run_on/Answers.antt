@@ -15,14 +15,6 @@ use Rattle.machine.proofs.Laws.{turns, other_tag, data_inside, registered, regis
 use borrow.Author.Rules.{rules}
 use Rattle.machine.proofs.run_on.Goals as goal
 
--- what is executed is what stands at the place
-found : (c : goal.After-execute-x)
-    → executable c.loop-steps.r.place c.instruction_at-i.result
-    ≡ instruction_at (program_of c.args.page.now c.args.platform) c.loop-steps.r.place
-found c = stands _ _ _ c.requires c.instruction_at-i.ensures (λ operation e. other_tag (rw e at c.in_default.keys2))
-
-)
-
 pub loop-steps-init : goal.loop-steps-init
 loop-steps-init c = (rw sub-zero, search rules, refl, search rules)
 
@@ -51,6 +43,12 @@ loop-steps-preserved-in-Data c = let kept = c.loop-steps.invariant in
       registered_length r _ w written kept.3,
     )
 
+-- what is executed is what stands at the place
+found : (c : goal.After-execute-x)
+    → executable c.loop-steps.r.place c.instruction_at-i.result
+    ≡ instruction_at (program_of c.args.page.now c.args.platform) c.loop-steps.r.place
+found c = stands _ _ _ c.requires c.instruction_at-i.ensures (λ operation e. other_tag (rw e at c.in_default.keys2))
+
 pub overflow_add-steps-in-GoesOn : goal.overflow_add-steps-in-GoesOn
 overflow_add-steps-in-GoesOn c = omega (arith, c.loop-steps-test.true, c.ranges)
 
@@ -63,6 +61,8 @@ loop-steps-preserved c = (
   omega arith,
   c.execute-x.auto.1.1.1.1.1.1.0 ∙ c.loop-steps.invariant.2,
   search rules,
+
+)
 
 pub overflow_add-steps-in-Exits : goal.overflow_add-steps-in-Exits
 overflow_add-steps-in-Exits c = omega (arith, c.loop-steps-test.true, c.ranges)
@@ -98,4 +98,4 @@ pub shape_of-ram : goal.shape_of-ram
 shape_of-ram c = omega arith
 
 pub returns : goal.returns
-returns c = rw c.stopped-2.ensures (sym (spent _ _ _ _ _ (omega arith)) ∙ c.loop-steps.invariant.0)
+returns-in-Exits c = rw c.stopped-2.ensures (sym (spent _ _ _ _ _ (omega arith)) ∙ c.loop-steps.invariant.0)

@@ -16,4 +16,4 @@ pub returns : goal.returns
 returns c =
     let e = c.sign_extended in
     let w : 8 * c.width.result ≡ 8 * width_of c.args.size = rw c.width.ensures in
-    c.low_word.ensures ∙ extends _ _ c.args.x e.result w e.type-inv e.ensures
+    c.low_word.ensures ∙ extends _ _ c.args.x e.result w e.type_inv e.ensures

@@ -21,9 +21,6 @@ loop-i-preserved c =
     let text = loop.invariant.0 then c.push-end.ensures then c.put_hex-end.ensures in
     (rw (word_more regs loop.i h) text, omega arith)
 
-pub shape_of-text : goal.shape_of-text
-shape_of-text c = keeps_length (returns c)
-
 pub returns : goal.returns
 unfolding regs_text
 returns c =
@@ -31,3 +28,6 @@ returns c =
     let h : length regs ≤ c.loop-i.i = search rules in
     let words = rw (take_all c.loop-i.i regs h) at c.loop-i.invariant.0 in
     c.put-end.ensures then words then c.push.ensures
+
+pub shape_of-text : goal.shape_of-text
+shape_of-text c = keeps_length (returns c)

@@ -8,12 +8,6 @@ use lib.Seq.{take_all, take-suc, take-suc-set}
 use Rattle.short_form.proofs.Numbers.{values_set}
 use Rattle.short_form.proofs.values_for.Goals as goal
 
--- all of them have
-copied : (c : goal.After-loop-i) → c.loop-i.values ≡ c.args.t1
-copied c =
-    let l = c.loop-i in
-    sym (take_all l.i l.values (omega arith)) ∙ l.invariant.2 ∙ take_all l.i c.args.t1 (omega arith)
-
 pub loop-i-init : goal.loop-i-init
 loop-i-init c = (omega arith, refl, refl)
 
@@ -28,6 +22,12 @@ loop-i-preserved c =
       length-set l.values l.i _ ∙ l.invariant.1,
       rw (add-one, take-suc-set l.values l.i (get_or numbers l.i 0) (omega arith), take-suc numbers l.i 0 (omega arith), l.invariant.2),
     )
+
+-- all of them have
+copied : (c : goal.After-loop-i) → c.loop-i.values ≡ c.args.t1
+copied c =
+    let l = c.loop-i in
+    sym (take_all l.i l.values (omega arith)) ∙ l.invariant.2 ∙ take_all l.i c.args.t1 (omega arith)
 
 pub overflow_mul-values : goal.overflow_mul-values
 overflow_mul-values c = rw (copied c) (omega (arith, c.requires.1))

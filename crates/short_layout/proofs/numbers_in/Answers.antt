@@ -18,6 +18,10 @@ use Rattle.short_layout.specs.ShortForm.{numbers_behind, numbers_in, held_by}
 use Rattle.short_layout.proofs.Laws.{is_number, taken, read_turn, not_read, read_end}
 use Rattle.short_layout.proofs.numbers_in.Goals as goal
 
+pub loop-i-init : goal.loop-i-init
+unfolding numbers_in
+loop-i-init c = (omega arith, omega arith, refl, refl)
+
 -- the other cases
 no_number : (f : Found) → OneOf (1 ∷ 2 ∷ 3 ∷ []) (tag_of the_type f) → is_number (seen_found f) ≡ false
 no_number (Number x n) (inl e) = absurd (omega arith)
@@ -27,21 +31,17 @@ no_number CutOff k = refl
 no_number TooManyGroups k = refl
 no_number NotShortest k = refl
 
--- no more than there is
-taken_here : (c : goal.In-Number) → c.in-Number.taken ≤ length c.args.bytes.now - c.loop-i.at
-taken_here c =
-    let e = rw c.in-Number.is at c.field_in-found.ensures in
-    taken _ _ _ _ c.loop-i.at c.args.bytes.now (λ k. (c.type_inv.bytes k).fits) e
-
-pub loop-i-init : goal.loop-i-init
-unfolding numbers_in
-loop-i-init c = (omega arith, omega arith, refl, refl)
-
 pub returns-in_default : goal.returns-in_default
 returns-in_default c =
     let l = c.loop-i in
     let e = not_read _ l.numbers l.at l.i (omega arith) l.invariant.3 _ (no_number c.field_in-found.result c.in_default.keys2) c.field_in-found.ensures in
     c.not_grouped.ensures ∙ ap held_by e
+
+-- no more than there is
+taken_here : (c : goal.In-Number) → c.in-Number.taken ≤ length c.args.bytes.now - c.loop-i.at
+taken_here c =
+    let e = rw c.in-Number.is at c.field_in-found.ensures in
+    taken _ _ _ _ c.loop-i.at c.args.bytes.now (λ k. (c.type_inv.bytes k).fits) e
 
 pub overflow_add-at : goal.overflow_add-at
 overflow_add-at c = omega (arith, taken_here c)
@@ -63,7 +63,7 @@ returns-then-at-bytes c =
     ap held_by (rw (eq-eqb _ _ c.if-at-bytes.true) at e)
 
 pub returns : goal.returns
-returns c =
+returns-in_default c =
     let l = c.loop-i in
     let e = read_end c.args.bytes.now l.numbers l.at l.i (omega arith) l.invariant.1 l.invariant.2 l.invariant.3 in
     c.not_grouped-2.ensures ∙ ap held_by (rw (ne_eqb _ _ c.if-at-bytes.false) at e)

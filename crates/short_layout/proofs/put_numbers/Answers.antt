@@ -22,11 +22,11 @@ loop-i-preserved c =
       omega arith,
     )
 
-pub shape_of-bytes : goal.shape_of-bytes
-shape_of-bytes c = keeps_length (returns c)
-
 pub returns : goal.returns
 unfolding short_bytes
 returns c =
     let e : c.loop-i.i ≡ 13 = omega arith in
     rw e at c.loop-i.invariant.0
+
+pub shape_of-bytes : goal.shape_of-bytes
+shape_of-bytes c = keeps_length (returns c)

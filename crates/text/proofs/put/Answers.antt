@@ -27,10 +27,10 @@ loop-i-preserved c =
     let h : loop.i < length piece = omega arith in
     (rw (add-one loop.i, take-suc piece loop.i 0 h) (loop.invariant.0 then c.push-end.ensures), omega arith)
 
-pub shape_of-text : goal.shape_of-text
-shape_of-text c = keeps_length (returns c)
-
 pub returns : goal.returns
 returns c =
     let h : length c.args.piece.now ≤ c.loop-i.i = omega arith in
     c.put_nothing-end.ensures then rw (take_all _ _ h) at c.loop-i.invariant.0
+
+pub shape_of-text : goal.shape_of-text
+shape_of-text c = keeps_length (returns c)

@@ -9,19 +9,19 @@ use Rattle.words.proofs.Integers.{word, in_range}
 use borrow.Author.Rules.{rules}
 use Rattle.words.proofs.sdiv.Goals as goal
 
+pub returns-then-y-eq0 : goal.returns-then-y-eq0
+returns-then-y-eq0 c = rw c.if-y-eq0.true
+
 -- the integers that quotient is handed are the words'
 left : (c : goal.After-sign_extended-b) → to_z w64 (of_z w64 c.sign_extended-a.result) ≡ SInt 32 c.args.x
 left c =
     let e = c.sign_extended-a in
-    word c.args.x e.result (omega arith) e.type-inv e.ensures
+    word c.args.x e.result (omega arith) e.type_inv e.ensures
 
 right : (c : goal.After-sign_extended-b) → to_z w64 (of_z w64 c.sign_extended-b.result) ≡ SInt 32 c.args.y
 right c =
     let e = c.sign_extended-b in
-    word c.args.y e.result (omega arith) e.type-inv e.ensures
-
-pub returns-then-y-eq0 : goal.returns-then-y-eq0
-returns-then-y-eq0 c = rw c.if-y-eq0.true
+    word c.args.y e.result (omega arith) e.type_inv e.ensures
 
 pub quotient-requires : goal.quotient-requires
 quotient-requires c =
@@ -31,7 +31,7 @@ quotient-requires c =
     rw (left c, right c) (y.1 c.if-y-eq0.false, x.0, y.0)
 
 pub returns : goal.returns
-returns c =
+returns-then-y-eq0 c =
     let q = c.quotient in
     rw (ne_eqb _ _ c.if-y-eq0.false)
-    (c.low_word.ensures ∙ ap low_word (read q.result q.type-inv ∙ (rw (left c, right c) at q.ensures)))
+    (c.low_word.ensures ∙ ap low_word (read q.result q.type_inv ∙ (rw (left c, right c) at q.ensures)))

@@ -6,4 +6,4 @@ use Rattle.words.proofs.sxth.Goals as goal
 pub returns : goal.returns
 returns c =
     let e = c.sign_extended in
-    c.low_word.ensures ∙ extended 16 c.args.x e.result e.type-inv e.ensures
+    c.low_word.ensures ∙ extended 16 c.args.x e.result e.type_inv e.ensures
