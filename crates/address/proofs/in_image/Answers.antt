@@ -9,4 +9,4 @@ returns-then-not-fits c = rw (sym c.fits.ensures ∙ not-true _ c.if-not-fits.tr
 
 pub returns : goal.returns
 unfolding in_image
-returns-then-not-fits c = rw (sym c.fits.ensures ∙ not-false _ c.if-not-fits.false)
+returns c = rw (sym c.fits.ensures ∙ not-false _ c.if-not-fits.false)

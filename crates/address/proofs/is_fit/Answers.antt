@@ -16,6 +16,6 @@ slice_bounds-is_fit-end c = omega (arith, (in_image_lem _ _ (sym c.in_image.ensu
 
 pub returns : goal.returns
 unfolding fit_in
-returns-then-not-in_image c =
+returns c =
     rw (sym c.in_image.ensures ∙ not-false _ c.if-not-in_image.false)
     (rw (c.is_fit.ensures, c.byte-count.ensures, page_part))

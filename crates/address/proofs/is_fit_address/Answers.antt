@@ -12,6 +12,6 @@ returns-then-address-ne0 c = rw (le-leb _ _ c.if-address-lt2147483648.false, ne_
 
 pub returns : goal.returns
 unfolding fit_address
-returns-then-address-lt2147483648 c =
+returns c =
     rw (le-leb _ _ c.if-address-lt2147483648.false, eq-eqb _ _ c.if-address-ne0.false)
     (rw (c.is_fit.ensures, c.place_of.ensures, c.page_of.ensures))

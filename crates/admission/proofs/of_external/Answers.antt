@@ -6,4 +6,4 @@ pub returns-then-not-external_fits : goal.returns-then-not-external_fits
 returns-then-not-external_fits c = rw (sym c.external_fits.ensures ∙ not-true _ c.if-not-external_fits.true)
 
 pub returns : goal.returns
-returns-then-not-external_fits c = rw (sym c.external_fits.ensures ∙ not-false _ c.if-not-external_fits.false)
+returns c = rw (sym c.external_fits.ensures ∙ not-false _ c.if-not-external_fits.false)

@@ -10,7 +10,7 @@ pub returns-then-ram-ne32768 : goal.returns-then-ram-ne32768
 returns-then-ram-ne32768 c = rw (ne_eqb _ _ c.if-ram-ne32768.true)
 
 pub returns : goal.returns
-returns-then-ram-ne32768 c =
+returns c =
     let s = c.args in
     rw (eq-eqb _ _ c.if-ram-ne32768.false)
     (joined (external_rule (length s.external.now) ∷ []) (window_rule s.window ∷ []) _ _ _ c.first_of.ensures c.of_external-data.ensures c.of_window-bounds.ensures)

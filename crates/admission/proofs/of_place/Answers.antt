@@ -6,4 +6,4 @@ pub returns-then-not-is_fit : goal.returns-then-not-is_fit
 returns-then-not-is_fit c = rw (sym c.is_fit.ensures ∙ not-true _ c.if-not-is_fit.true)
 
 pub returns : goal.returns
-returns-then-not-is_fit c = rw (sym c.is_fit.ensures ∙ not-false _ c.if-not-is_fit.false)
+returns c = rw (sym c.is_fit.ensures ∙ not-false _ c.if-not-is_fit.false)

@@ -14,4 +14,4 @@ pub overflow_sub-result : goal.overflow_sub-result
 overflow_sub-result c = rw (one_shl c.args.n (omega arith)) (pow_pos c.args.n)
 
 pub returns : goal.returns
-returns-then-lo-ge32 c = shift_mask c.args.x c.args.lo c.args.n (omega arith)
+returns c = shift_mask c.args.x c.args.lo c.args.n (omega arith)

@@ -11,7 +11,7 @@ pub returns-then-n-ge32 : goal.returns-then-n-ge32
 returns-then-n-ge32 c = join_past c.args.high c.args.low c.args.n (omega arith) (omega arith)
 
 pub returns : goal.returns
-returns-then-n-ge32 c =
+returns c =
     let a = c.args in
     let e : c.field.result ≡ a.low % 2 ^ a.n = c.field.ensures ∙ ap (λ (m : ℕ). m % 2 ^ a.n) (div-one a.low) in
     rw e (shift_or a.high a.n (a.low % 2 ^ a.n) 32 (omega arith) (mod-lt a.low (pow_pos a.n)))

@@ -23,7 +23,7 @@ signed-requires c =
     (omega arith, rw (c.field.ensures, e) (mod-lt _ (pow_pos a.n)))
 
 pub returns : goal.returns
-returns-then-n-eq0 c =
+returns c =
     let a = c.args in
     let e : suc (a.n - 1) ≡ a.n = omega arith in
     read c.signed.result c.signed.type_inv ∙ (rw (c.field.ensures, e, div-one a.x) at c.signed.ensures)

@@ -22,7 +22,7 @@ returns-then-opens_32-2 c =
     (sym c.opens_32.ensures ∙ c.if-opens_32.false) (sym c.opens_32-2.ensures ∙ c.if-opens_32-2.true)
 
 pub returns : goal.returns
-returns-then-opens_32 c =
+returns c =
     rw (
       c.after_first.ensures,
       c.flow_of-2.ensures,

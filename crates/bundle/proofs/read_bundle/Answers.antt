@@ -29,6 +29,6 @@ largest_at-requires c =
     omega arith
 
 pub returns : goal.returns
-returns-in-Refused c =
+returns c =
     let s = c.args in
     rw (after_lem (program_rules (program_of s.page.now s.platform)) (bundle_rule s.page.now s.k ∷ []) _ c.of_program.ensures, c.in_default.is, lt-leb _ _ c.if-k-page.false, c.largest_at.ensures)

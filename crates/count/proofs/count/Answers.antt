@@ -48,7 +48,7 @@ loop-k-preserved c =
     )
 
 pub returns : goal.returns
-returns-in-Refused c =
+returns c =
     let s = c.args in
     let program = program_of s.page.now s.platform in
     rw (← c.of_program.ensures, c.in_default.is, scan_end (successors_of program) c.loop-k.k c.loop-k.bound (count_of program) (omega arith) c.loop-k.invariant.1)

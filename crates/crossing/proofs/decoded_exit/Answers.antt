@@ -6,7 +6,7 @@ pub returns-then-low-gt255 : goal.returns-then-low-gt255
 returns-then-low-gt255 c = rw (lt-leb _ _ c.if-low-gt255.true) c.bare_exit.ensures
 
 pub returns : goal.returns
-returns-then-low-gt255 c =
+returns c =
     rw (
       le-leb _ _ c.if-low-gt255.false,
       ← c.literal.ensures,

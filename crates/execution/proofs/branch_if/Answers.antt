@@ -12,4 +12,4 @@ returns-then-taken c = λ m. rw c.if-taken.true (c.branch_to.ensures m)
 
 pub returns : goal.returns
 unfolding branch_if executed_of
-returns-then-taken c = λ m. rw c.if-taken.false c.moved.ensures
+returns c = λ m. rw c.if-taken.false c.moved.ensures

@@ -21,4 +21,4 @@ pub returns-then-values-gt15 : goal.returns-then-values-gt15
 returns-then-values-gt15 c = rw (range_tests c.args.t1 (omega arith), sym c.sp_fits.ensures ∙ not-false _ c.if-not-sp_fits.false, le-leb _ _ c.if-values-gt2.false, sym c.offset_in_range.ensures ∙ not-false _ c.if-not-offset_in_range.false, le-leb _ _ c.if-values-gt127.false, lt-leb _ _ c.if-values-gt15.true)
 
 pub returns : goal.returns
-returns-then-not-sp_fits c = rw (range_tests c.args.t1 (omega arith), sym c.sp_fits.ensures ∙ not-false _ c.if-not-sp_fits.false, le-leb _ _ c.if-values-gt2.false, sym c.offset_in_range.ensures ∙ not-false _ c.if-not-offset_in_range.false, le-leb _ _ c.if-values-gt127.false, le-leb _ _ c.if-values-gt15.false)
+returns c = rw (range_tests c.args.t1 (omega arith), sym c.sp_fits.ensures ∙ not-false _ c.if-not-sp_fits.false, le-leb _ _ c.if-values-gt2.false, sym c.offset_in_range.ensures ∙ not-false _ c.if-not-offset_in_range.false, le-leb _ _ c.if-values-gt127.false, le-leb _ _ c.if-values-gt15.false)

@@ -9,4 +9,4 @@ returns-then-address-lt65536 c = rw (lt-ltb _ _ c.if-address-lt65536.true)
 
 pub returns : goal.returns
 unfolding frame_access
-returns-then-address-lt65536 c = rw (le-ltb _ _ c.if-address-lt65536.false) c.ram_access.ensures
+returns c = rw (le-ltb _ _ c.if-address-lt65536.false) c.ram_access.ensures

@@ -13,7 +13,7 @@ returns-in-Refused c =
     (area_rules setting s.ram.now) _ _ c.in-Refused.is c.of_areas-areas.ensures c.no_record.ensures
 
 pub returns : goal.returns
-returns-in-Refused c =
+returns c =
     let s = c.args in
     let setting = setting_of (program_of s.page.now s.platform) s.external.now s.window in
     let held = c.holds_record-held in

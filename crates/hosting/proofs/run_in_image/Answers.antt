@@ -12,7 +12,7 @@ returns-in-Refused c =
     (image_area_rules setting s.number s.ram.now) _ _ c.in-Refused.is c.of_areas-areas.ensures c.no_record.ensures
 
 pub returns : goal.returns
-returns-in-Refused c =
+returns c =
     let s = c.args in
     let setting = image_setting_of (image_of s.image.now s.index.now s.platform) s.external.now s.window in
     let held = c.holds_record-held in

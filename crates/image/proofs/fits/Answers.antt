@@ -12,4 +12,4 @@ returns-then-image-gt1048576 c = rw (le-leb 256 _ c.if-image-lt256.false, lt-leb
 
 pub returns : goal.returns
 unfolding image_fits
-returns-then-image-lt256 c = rw (le-leb 256 _ c.if-image-lt256.false, le-leb _ _ c.if-image-gt1048576.false)
+returns c = rw (le-leb 256 _ c.if-image-lt256.false, le-leb _ _ c.if-image-gt1048576.false)

@@ -38,6 +38,6 @@ loop-p-preserved c =
     same_turn (image_of s.image.now s.index.now s.platform) s.index.now c.if-index-image.false c.loop-p.p (omega arith) c.loop-p.invariant (c.if-index-p.false ∙ c.count_at-counted.ensures)
 
 pub returns : goal.returns
-returns-then-index-image c =
+returns c =
     let s = c.args in
     sym (rw (← all_same (image_of s.image.now s.index.now s.platform) s.index.now c.if-index-image.false c.loop-p.p (omega arith) c.loop-p.invariant) (true_equal s.index.now))

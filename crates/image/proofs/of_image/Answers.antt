@@ -9,4 +9,4 @@ pub returns-then-not-fits : goal.returns-then-not-fits
 returns-then-not-fits c = rw (sym c.is_known.ensures ∙ not-false _ c.if-not-is_known.false, sym c.fits.ensures ∙ not-true _ c.if-not-fits.true)
 
 pub returns : goal.returns
-returns-then-not-is_known c = rw (sym c.is_known.ensures ∙ not-false _ c.if-not-is_known.false, sym c.fits.ensures ∙ not-false _ c.if-not-fits.false)
+returns c = rw (sym c.is_known.ensures ∙ not-false _ c.if-not-is_known.false, sym c.fits.ensures ∙ not-false _ c.if-not-fits.false)

@@ -5,4 +5,4 @@ pub returns-then-index-image : goal.returns-then-index-image
 returns-then-index-image c = rw (ne_eqb _ _ c.if-index-image.true)
 
 pub returns : goal.returns
-returns-then-index-image c = rw (eq-eqb _ _ c.if-index-image.false)
+returns c = rw (eq-eqb _ _ c.if-index-image.false)

@@ -5,4 +5,4 @@ pub returns-then-number-image : goal.returns-then-number-image
 returns-then-number-image c = rw (le-ltb _ _ c.if-number-image.true)
 
 pub returns : goal.returns
-returns-then-number-image c = rw (lt-ltb _ _ c.if-number-image.false)
+returns c = rw (lt-ltb _ _ c.if-number-image.false)

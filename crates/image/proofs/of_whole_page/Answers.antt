@@ -5,4 +5,4 @@ pub returns-then-page-ne256 : goal.returns-then-page-ne256
 returns-then-page-ne256 c = rw (ne_eqb _ _ c.if-page-ne256.true)
 
 pub returns : goal.returns
-returns-then-page-ne256 c = rw (eq-eqb _ _ c.if-page-ne256.false)
+returns c = rw (eq-eqb _ _ c.if-page-ne256.false)

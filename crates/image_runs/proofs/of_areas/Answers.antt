@@ -7,7 +7,7 @@ use Rattle.admission.specs.RunRefusals.{lent_rules}
 use Rattle.image_runs.proofs.of_areas.Goals as goal
 
 pub returns : goal.returns
-returns-in-Refused c =
+returns c =
     let s = c.args in
     let image = image_of s.image.now s.index.now s.platform in
     rw (after_lem (page_rules image s.number) (index_rule image ∷ lent_rules s.external.now s.window s.ram.now) _ c.of_page.ensures, c.in_default.is)

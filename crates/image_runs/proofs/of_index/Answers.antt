@@ -6,4 +6,4 @@ pub returns-then-not-holds_counts : goal.returns-then-not-holds_counts
 returns-then-not-holds_counts c = rw (sym c.holds_counts.ensures ∙ not-true _ c.if-not-holds_counts.true)
 
 pub returns : goal.returns
-returns-then-not-holds_counts c = rw (sym c.holds_counts.ensures ∙ not-false _ c.if-not-holds_counts.false)
+returns c = rw (sym c.holds_counts.ensures ∙ not-false _ c.if-not-holds_counts.false)

@@ -32,7 +32,7 @@ returns-then-imm8-lt240 c =
 
 pub returns : goal.returns
 unfolding class_of matches
-returns-then-imm8-lt233 c =
+returns c =
     let h = c.args.h in
     let low : c.read_operands-f.result.imm8 ≡ bits h 7 0 = ap (λ (f : Operands). f.imm8) c.read_operands-f.ensures in
     rw low (by_low 0xDF 23 refl (λ h. Service (bits h 7 0)) alike true 0xF0 16 refl h c.requires (omega arith) (omega arith))

@@ -19,7 +19,7 @@ returns-then-w-eq4222677232 c = rw (c.field-n.ensures, c.field-d.ensures, c.fiel
 
 pub returns : goal.returns
 unfolding decode_by
-returns-then-w-eq4064280576 c =
+returns c =
     let w = c.args.w in
     rw (
       miss (pattern_at arithmetic32 0) w c.if-w-eq4064280576.false,

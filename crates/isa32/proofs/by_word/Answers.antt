@@ -32,7 +32,7 @@ returns-then-load-5 c = rw (c.field-n.ensures, c.field-t.ensures, c.field-imm12.
 
 pub returns : goal.returns
 unfolding decode_by
-returns-then-store c =
+returns c =
     let w = c.args.w in
     rw (
       miss (pattern_at listed32 0) w c.if-store.false,

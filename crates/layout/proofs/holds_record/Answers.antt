@@ -10,4 +10,4 @@ pub returns-then-bytes-ne44 : goal.returns-then-bytes-ne44
 returns-then-bytes-ne44 c = rw (ne_eqb _ _ c.if-bytes-ne44.true)
 
 pub returns : goal.returns
-returns-then-bytes-ne44 c = rw (eq-eqb _ _ c.if-bytes-ne44.false) (c.values_stand.ensures ∙ ap (λ (values : List ℕ). decision (stand_rules values)) c.values_in.ensures)
+returns c = rw (eq-eqb _ _ c.if-bytes-ne44.false) (c.values_stand.ensures ∙ ap (λ (values : List ℕ). decision (stand_rules values)) c.values_in.ensures)

@@ -15,4 +15,4 @@ pub returns-then-values-gt15 : goal.returns-then-values-gt15
 returns-then-values-gt15 c = rw (stand_tests c.args.t1 (omega arith), le-leb _ _ c.if-values-gt2.false, sym c.offset_stands.ensures ∙ not-false _ c.if-not-offset_stands.false, lt-leb _ _ c.if-values-gt15.true)
 
 pub returns : goal.returns
-returns-then-values-gt2 c = rw (stand_tests c.args.t1 (omega arith), le-leb _ _ c.if-values-gt2.false, sym c.offset_stands.ensures ∙ not-false _ c.if-not-offset_stands.false, le-leb _ _ c.if-values-gt15.false)
+returns c = rw (stand_tests c.args.t1 (omega arith), le-leb _ _ c.if-values-gt2.false, sym c.offset_stands.ensures ∙ not-false _ c.if-not-offset_stands.false, le-leb _ _ c.if-values-gt15.false)

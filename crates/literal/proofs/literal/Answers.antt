@@ -18,7 +18,7 @@ returns-then-field-eq0-2 c =
 
 pub returns : goal.returns
 unfolding literal_of
-returns-then-field-eq0 c =
+returns c =
     rw (
       set _ 31 c.field.ensures c.if-field-eq0.false,
       set _ 30 c.field-2.ensures c.if-field-eq0-2.false,

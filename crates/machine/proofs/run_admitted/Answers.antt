@@ -13,4 +13,4 @@ pub returns-then-not-fits : goal.returns-then-not-fits
 returns-then-not-fits c = rw (c.stopped.ensures, sym c.fits.ensures ∙ not-true _ c.if-not-fits.true)
 
 pub returns : goal.returns
-returns-then-not-fits c = rw (sym c.fits.ensures ∙ not-false _ c.if-not-fits.false) c.run_on.ensures
+returns c = rw (sym c.fits.ensures ∙ not-false _ c.if-not-fits.false) c.run_on.ensures

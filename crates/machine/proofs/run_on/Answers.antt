@@ -98,4 +98,4 @@ pub shape_of-ram : goal.shape_of-ram
 shape_of-ram c = omega arith
 
 pub returns : goal.returns
-returns-in-Exits c = rw c.stopped-2.ensures (sym (spent _ _ _ _ _ (omega arith)) ∙ c.loop-steps.invariant.0)
+returns c = rw c.stopped-2.ensures (sym (spent _ _ _ _ _ (omega arith)) ∙ c.loop-steps.invariant.0)

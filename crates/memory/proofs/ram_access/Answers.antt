@@ -4,7 +4,7 @@ use Rattle.memory.proofs.ram_access.Goals as goal
 
 -- in RAM and in the window
 pub returns : goal.returns
-returns-then-not-holds c = in_ram _ _ _ _ _ _ _ _ c.whole_ram.ensures c.holds.ensures (not-false _ c.if-not-holds.false) c.holds-2.ensures (not-false _ c.if-not-holds-2.false)
+returns c = in_ram _ _ _ _ _ _ _ _ c.whole_ram.ensures c.holds.ensures (not-false _ c.if-not-holds.false) c.holds-2.ensures (not-false _ c.if-not-holds-2.false)
 
 pub returns-then-not-holds : goal.returns-then-not-holds
 returns-then-not-holds c = past_ram _ _ _ _ _ _ c.whole_ram.ensures c.holds.ensures (not-true _ c.if-not-holds.true)

@@ -9,4 +9,4 @@ returns-then-page-gt256 c = rw (lt-leb (length c.args.page.now) 256 c.if-page-gt
 
 pub returns : goal.returns
 unfolding page_fits
-returns-then-page-gt256 c = rw (le-leb (length c.args.page.now) 256 c.if-page-gt256.false)
+returns c = rw (le-leb (length c.args.page.now) 256 c.if-page-gt256.false)

@@ -6,4 +6,4 @@ pub returns-then-k-page : goal.returns-then-k-page
 returns-then-k-page c = rw (c.halfword-then-k-page.ensures, c.halfword.ensures, first_bytes _ _, second_bytes _ _)
 
 pub returns : goal.returns
-returns-then-k-page c = rw (c.halfword-3.ensures, c.byte-4.ensures, c.byte-3.ensures, c.halfword-2.ensures, c.byte-2.ensures, c.byte.ensures, first_bytes _ _, second_bytes _ _)
+returns c = rw (c.halfword-3.ensures, c.byte-4.ensures, c.byte-3.ensures, c.halfword-2.ensures, c.byte-2.ensures, c.byte.ensures, first_bytes _ _, second_bytes _ _)

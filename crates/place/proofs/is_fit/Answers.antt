@@ -13,4 +13,4 @@ returns-then-place-eq0 c = rw (lt-ltb _ _ c.if-k-count.false, eq-eqb _ _ c.if-pl
 
 pub returns : goal.returns
 unfolding fit_below
-returns-then-k-count c = rw (lt-ltb _ _ c.if-k-count.false, ne_eqb _ _ c.if-place-eq0.false, c.second_fits.ensures, c.halves_of-h.ensures)
+returns c = rw (lt-ltb _ _ c.if-k-count.false, ne_eqb _ _ c.if-place-eq0.false, c.second_fits.ensures, c.halves_of-h.ensures)

@@ -13,4 +13,4 @@ returns-then-opens_32-2 c = rw (sym c.opens_32.ensures ∙ c.if-opens_32.false, 
 
 pub returns : goal.returns
 unfolding second_fits
-returns-then-opens_32 c = rw (sym c.opens_32.ensures ∙ c.if-opens_32.false, sym c.opens_32-2.ensures ∙ c.if-opens_32-2.false, c.is_terminator.ensures, c.decode16.ensures)
+returns c = rw (sym c.opens_32.ensures ∙ c.if-opens_32.false, sym c.opens_32-2.ensures ∙ c.if-opens_32-2.false, c.is_terminator.ensures, c.decode16.ensures)

@@ -9,4 +9,4 @@ pub returns-then-n-ge64 : goal.returns-then-n-ge64
 returns-then-n-ge64 c = rw (sym (no_field 64 c.args.platform.never_return c.args.n 1 (omega arith) (omega arith)))
 
 pub returns : goal.returns
-returns-then-n-ge64 c = rw (and_mask _ 1)
+returns c = rw (and_mask _ 1)

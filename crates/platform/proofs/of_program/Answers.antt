@@ -10,5 +10,5 @@ returns-then-not-fits c =
     rw (sym c.is_known-known.ensures ∙ not-false _ c.if-not-known.false, sym c.fits-fits.ensures ∙ not-true _ c.if-not-fits.true)
 
 pub returns : goal.returns
-returns-then-not-known c =
+returns c =
     rw (sym c.is_known-known.ensures ∙ not-false _ c.if-not-known.false, sym c.fits-fits.ensures ∙ not-false _ c.if-not-fits.false)

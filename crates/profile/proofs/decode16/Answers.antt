@@ -11,4 +11,4 @@ pub returns-then-platform-compares_and_branches : goal.returns-then-platform-com
 returns-then-platform-compares_and_branches c = of_other16 _ _ _ true c.if-platform-lt1.false c.decode16-i.ensures (rw (← c.compares_and_branches.ensures) c.if-platform-compares_and_branches.true)
 
 pub returns : goal.returns
-returns-then-platform-lt1 c = of_other16 _ _ _ false c.if-platform-lt1.false c.decode16-i.ensures (rw (← c.compares_and_branches.ensures) c.if-platform-compares_and_branches.false)
+returns c = of_other16 _ _ _ false c.if-platform-lt1.false c.decode16-i.ensures (rw (← c.compares_and_branches.ensures) c.if-platform-compares_and_branches.false)

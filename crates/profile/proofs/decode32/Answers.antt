@@ -10,6 +10,6 @@ returns-then-is_full c =
     c.decode32.ensures ∙ of_full number listed32 _ (ltb-true number 1 c.if-is_full.true)
 
 pub returns : goal.returns
-returns-then-is_full c =
+returns c =
     let s = c.args in
     of_other32 s.platform.profile (word_of s.first s.second) (ltb-false s.platform.profile 1 c.if-is_full.false)

@@ -90,7 +90,7 @@ returns-then-n-le247 c =
 
 pub returns : goal.returns
 unfolding by_low_byte
-returns-then-n-le0 c =
+returns c =
     rw (
       lt-leb _ _ c.if-n-le0.false,
       lt-leb _ _ c.if-n-le127.false,

@@ -4,4 +4,4 @@ pub returns-then-grouped : goal.returns-then-grouped
 returns-then-grouped c = rw c.if-grouped.true
 
 pub returns : goal.returns
-returns-then-grouped c = rw c.if-grouped.false
+returns c = rw c.if-grouped.false

@@ -38,6 +38,6 @@ loop-i-preserved c =
     )
 
 pub returns : goal.returns
-returns-then-not-number_fits c =
+returns c =
     let e : c.loop-i.i ≡ 13 = omega arith in
     rw e at c.loop-i.invariant.2

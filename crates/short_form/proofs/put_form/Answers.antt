@@ -21,6 +21,6 @@ returns-then-room-length c =
     no_room (short_bytes s.numbers) s.room.now (omega (arith, measured c))
 
 pub returns : goal.returns
-returns-then-room-length c =
+returns c =
     let s = c.args in
     put_in (short_bytes s.numbers) s.room.now _ _ _ (measured c) (omega arith) c.put_numbers.ensures

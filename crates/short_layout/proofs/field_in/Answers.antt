@@ -9,4 +9,4 @@ returns-then-is_there c = rw (sym c.is_there.ensures ∙ c.if-is_there.true) c.r
 
 pub returns : goal.returns
 unfolding field_in
-returns-then-is_there c = rw (sym c.is_there.ensures ∙ c.if-is_there.false)
+returns c = rw (sym c.is_there.ensures ∙ c.if-is_there.false)

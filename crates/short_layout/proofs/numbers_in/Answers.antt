@@ -63,7 +63,7 @@ returns-then-at-bytes c =
     ap held_by (rw (eq-eqb _ _ c.if-at-bytes.true) at e)
 
 pub returns : goal.returns
-returns-in_default c =
+returns c =
     let l = c.loop-i in
     let e = read_end c.args.bytes.now l.numbers l.at l.i (omega arith) l.invariant.1 l.invariant.2 l.invariant.3 in
     c.not_grouped-2.ensures ∙ ap held_by (rw (ne_eqb _ _ c.if-at-bytes.false) at e)

@@ -9,4 +9,4 @@ returns-then-is_there c = rw (sym c.is_there.ensures ∙ c.if-is_there.true) c.p
 
 pub returns : goal.returns
 unfolding field_bytes
-returns-then-is_there c = rw (sym c.is_there.ensures ∙ c.if-is_there.false) c.put-2.ensures
+returns c = rw (sym c.is_there.ensures ∙ c.if-is_there.false) c.put-2.ensures

@@ -5,4 +5,4 @@ pub returns-then-sp-ne0 : goal.returns-then-sp-ne0
 returns-then-sp-ne0 c = rw (ne_eqb _ _ c.if-sp-ne0.true)
 
 pub returns : goal.returns
-returns-then-sp-ne0 c = rw (eq-eqb _ _ c.if-sp-ne0.false)
+returns c = rw (eq-eqb _ _ c.if-sp-ne0.false)

@@ -8,4 +8,4 @@ pub returns-then-sp-gt98304 : goal.returns-then-sp-gt98304
 returns-then-sp-gt98304 c = rw (le-leb _ _ c.if-sp-lt65536.false, lt-leb _ _ c.if-sp-gt98304.true)
 
 pub returns : goal.returns
-returns-then-sp-lt65536 c = rw (le-leb _ _ c.if-sp-lt65536.false, le-leb _ _ c.if-sp-gt98304.false)
+returns c = rw (le-leb _ _ c.if-sp-lt65536.false, le-leb _ _ c.if-sp-gt98304.false)

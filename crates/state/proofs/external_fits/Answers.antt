@@ -9,4 +9,4 @@ returns-then-external-gt16777216 c = rw (lt-leb (length c.args.external.now) 167
 
 pub returns : goal.returns
 unfolding external_fits
-returns-then-external-gt16777216 c = rw (le-leb (length c.args.external.now) 16777216 c.if-external-gt16777216.false)
+returns c = rw (le-leb (length c.args.external.now) 16777216 c.if-external-gt16777216.false)

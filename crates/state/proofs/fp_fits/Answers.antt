@@ -18,6 +18,6 @@ returns-then-fp-gt98272 c =
     rw (ne_eqb _ _ c.if-fp-eq0.false, eq-eqb _ _ c.if-fp-ne0.false, le-leb _ _ c.if-fp-lt65536.false, lt-leb (fp + 32) 0x18000 (omega arith))
 
 pub returns : goal.returns
-returns-then-fp-eq0 c =
+returns c =
     let fp = c.args.fp in
     rw (ne_eqb _ _ c.if-fp-eq0.false, eq-eqb _ _ c.if-fp-ne0.false, le-leb _ _ c.if-fp-lt65536.false, le-leb (fp + 32) 0x18000 (omega arith))

@@ -20,4 +20,4 @@ pub loop-end-preserved : goal.loop-end-preserved
 loop-end-preserved c = (omega arith, omega arith)
 
 pub returns : goal.returns
-returns-then-input-end-eq10 c = (omega arith, omega arith)
+returns c = (omega arith, omega arith)

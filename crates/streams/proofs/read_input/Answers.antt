@@ -13,4 +13,4 @@ pub returns-then-more-eq0 : goal.returns-then-more-eq0
 returns-then-more-eq0 c = read_bytes _ _ (omega arith)
 
 pub returns : goal.returns
-returns-then-got-lt0 c = read_bytes _ _ (omega arith)
+returns c = read_bytes _ _ (omega arith)

@@ -40,7 +40,7 @@ pub shape_of-room : goal.shape_of-room
 shape_of-room c = c.loop-i.invariant.2
 
 pub returns : goal.returns
-returns-then-room-text c =
+returns c =
     let args = c.args in
     let text = args.text.now in
     let e : c.loop-i.i ≡ length text = omega arith in

@@ -10,7 +10,7 @@ returns-then-is_refusal c = rw (sym c.is_refusal.ensures ∙ c.if-is_refusal.tru
 
 pub returns : goal.returns
 unfolding transcript_of
-returns-then-is_refusal c =
+returns c =
     rw (sym c.is_refusal.ensures ∙ c.if-is_refusal.false)
     (c.stop_line-at.ensures then c.steps_line-at.ensures then c.place_line-at.ensures
     then c.regs_line-at.ensures then c.flags_line.ensures)

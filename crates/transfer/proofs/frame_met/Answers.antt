@@ -6,4 +6,4 @@ pub returns-then-not-fp_fits : goal.returns-then-not-fp_fits
 returns-then-not-fp_fits c = rw (sym c.fp_fits.ensures ∙ not-true _ c.if-not-fp_fits.true)
 
 pub returns : goal.returns
-returns-then-not-fp_fits c = rw (sym c.fp_fits.ensures ∙ not-false _ c.if-not-fp_fits.false)
+returns c = rw (sym c.fp_fits.ensures ∙ not-false _ c.if-not-fp_fits.false)

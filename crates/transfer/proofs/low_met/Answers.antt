@@ -8,4 +8,4 @@ pub returns-then-top-bytes : goal.returns-then-top-bytes
 returns-then-top-bytes c = let s = c.args in rw (lt-ltb (s.top - s.bytes) 0x10000 (omega (arith, c.if-top-bytes.true)))
 
 pub returns : goal.returns
-returns-then-top-bytes c = let s = c.args in rw (le-ltb (s.top - s.bytes) 0x10000 (omega (arith, c.if-top-bytes.false)))
+returns c = let s = c.args in rw (le-ltb (s.top - s.bytes) 0x10000 (omega (arith, c.if-top-bytes.false)))

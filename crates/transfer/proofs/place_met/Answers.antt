@@ -6,4 +6,4 @@ pub returns-then-not-is_fit_address : goal.returns-then-not-is_fit_address
 returns-then-not-is_fit_address c = rw (sym c.is_fit_address.ensures ∙ not-true _ c.if-not-is_fit_address.true)
 
 pub returns : goal.returns
-returns-then-not-is_fit_address c = rw (sym c.is_fit_address.ensures ∙ not-false _ c.if-not-is_fit_address.false)
+returns c = rw (sym c.is_fit_address.ensures ∙ not-false _ c.if-not-is_fit_address.false)

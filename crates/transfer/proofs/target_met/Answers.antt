@@ -16,7 +16,7 @@ returns-then-not-is_fit c =
     )
 
 pub returns : goal.returns
-returns-then-not-in_image c =
+returns c =
     rw (
       ← c.page_of-p.ensures,
       ← c.place_of-place.ensures,

@@ -5,4 +5,4 @@ pub returns-then-fp-eq0 : goal.returns-then-fp-eq0
 returns-then-fp-eq0 c = rw (eq-eqb _ _ c.if-fp-eq0.true)
 
 pub returns : goal.returns
-returns-then-fp-eq0 c = rw (ne_eqb _ _ c.if-fp-eq0.false)
+returns c = rw (ne_eqb _ _ c.if-fp-eq0.false)

@@ -22,4 +22,4 @@ returns-then-end-bytes c = rw (le-leb _ _ c.if-at-start.false, too_many _ _ _ c.
 
 pub returns : goal.returns
 unfolding inside_window
-returns-then-at-start c = rw (le-leb _ _ c.if-at-start.false, past_last _ _ _ c.if-at-end.false)
+returns c = rw (le-leb _ _ c.if-at-start.false, past_last _ _ _ c.if-at-end.false)

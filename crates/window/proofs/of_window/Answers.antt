@@ -8,4 +8,4 @@ pub returns-then-w-gt32768 : goal.returns-then-w-gt32768
 returns-then-w-gt32768 c = rw (le-leb _ _ c.if-w.false, lt-leb _ _ c.if-w-gt32768.true)
 
 pub returns : goal.returns
-returns-then-w c = rw (le-leb _ _ c.if-w.false, le-leb _ _ c.if-w-gt32768.false)
+returns c = rw (le-leb _ _ c.if-w.false, le-leb _ _ c.if-w-gt32768.false)

@@ -21,7 +21,7 @@ handed c =
     word c.args.x e.result (omega arith) e.type_inv e.ensures
 
 pub returns : goal.returns
-returns-then-n-eq0 c =
+returns c =
     let n = c.args.n in
     let z = (in_range c.args.x (omega arith)).0 in
     let k = c.at_most_32-m.ensures in

@@ -16,7 +16,7 @@ returns-then-n-gt32 c =
     rw (ne_eqb _ _ c.if-n-eq0.false, p.0, p.1)
 
 pub returns : goal.returns
-returns-then-n-eq0 c =
+returns c =
     let x = c.args.x in
     let n = c.args.n in
     rw (ne_eqb _ _ c.if-n-eq0.false, shl_exact {a = x} 32 n 64 (omega arith) (omega arith))

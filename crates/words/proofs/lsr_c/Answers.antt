@@ -19,4 +19,4 @@ pub overflow_cast-result-2 : goal.overflow_cast-result-2
 overflow_cast-result-2 c = Fits-div (2 ^ c.args.n) c.ranges.x
 
 pub returns : goal.returns
-returns-then-n-eq0 c = rw (ne_eqb _ _ c.if-n-eq0.false)
+returns c = rw (ne_eqb _ _ c.if-n-eq0.false)

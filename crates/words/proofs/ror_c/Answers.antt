@@ -13,7 +13,7 @@ pub overflow_cast-value : goal.overflow_cast-value
 overflow_cast-value c = Fits-or (Fits-div (2 ^ (c.args.n % 32)) c.ranges.x) (record { fits = omega arith })
 
 pub returns : goal.returns
-returns-then-n-eq0 c =
+returns c =
     let x = c.args.x in
     let n = c.args.n in
     rw (ne_eqb _ _ c.if-n-eq0.false, shl_exact {a = x} 32 (32 - n % 32) 64 (omega arith) (omega arith))

@@ -31,7 +31,7 @@ quotient-requires c =
     rw (left c, right c) (y.1 c.if-y-eq0.false, x.0, y.0)
 
 pub returns : goal.returns
-returns-then-y-eq0 c =
+returns c =
     let q = c.quotient in
     rw (ne_eqb _ _ c.if-y-eq0.false)
     (c.low_word.ensures ∙ ap low_word (read q.result q.type_inv ∙ (rw (left c, right c) at q.ensures)))
