@@ -17,7 +17,7 @@ loop-i-init c = (omega arith, refl, refl)
 pub returns-then-not-number_fits : goal.returns-then-not-number_fits
 returns-then-not-number_fits c =
     let l = c.loop-i in
-    let numbers = c.args.t1 in
+    let numbers = c.args.numbers in
     let fails = sym c.number_fits.ensures ∙ c.if-not-number_fits.true in
     sym (rw fails at (next_rule number_fits 7 (get_or numbers 9 0) stored_form numbers l.at l.i (omega arith) (omega arith))) ∙ l.invariant.2
 
@@ -29,7 +29,7 @@ overflow_add-at c =
 pub loop-i-preserved : goal.loop-i-preserved
 loop-i-preserved c =
     let l = c.loop-i in
-    let numbers = c.args.t1 in
+    let numbers = c.args.numbers in
     let holds = sym c.number_fits.ensures ∙ c.if-not-number_fits.false in (
       omega arith,
       next stored_form l.i l.at c.width_of-at.result (omega arith) l.invariant.1 c.width_of-at.ensures,
