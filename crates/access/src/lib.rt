@@ -1,5 +1,6 @@
 // What loads and stores do to registers and RAM, and which fault they meet; never the place.
 #![tactic(auto)]
+
 ghost use Rattle.std.specs.Prelude.{◌≡◌};
 ghost use Rattle.access.specs.Outcomes.{load_to, store_with, did_of, Does, DoesAny};
 ghost use Rattle.access.specs.LoadsAndStores.{stack_loaded, stack_stored, after_stack_store, literal_loaded, loaded_base, load_at, store_at, store_base, load_base, load_signed, accessed};

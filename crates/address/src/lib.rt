@@ -1,5 +1,6 @@
 // Addresses of places in an image, and whether a place there is fit.
 #![tactic(auto)]
+
 ghost use Rattle.std.specs.Prelude.{◌-◌, ◌≡◌};
 ghost use Rattle.image.specs.Images.{image_of};
 ghost use Rattle.address.specs.Addresses.{address_of, page_of, place_of, in_image, fit_in, fit_address};

@@ -1,5 +1,6 @@
 // What a step and a run refuse.
 #![tactic(auto)]
+
 ghost use Rattle.std.specs.Prelude.{[], ◌∷◌, ◌≡◌, length};
 ghost use Rattle.platform.specs.Programs.{program_of, setting_of};
 ghost use Rattle.refusal.specs.Refusals.{decision, decision_of};

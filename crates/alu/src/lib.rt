@@ -1,5 +1,6 @@
 // The manual's data-processing operations: operand values and the flags give a value and the flags with it.
 #![tactic(auto)]
+
 ghost use Rattle.std.specs.Prelude.{◌≡◌};
 ghost use Rattle.alu.specs.Operations as operations;
 

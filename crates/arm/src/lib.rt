@@ -1,5 +1,6 @@
 // Flags: sums with carry and overflow, the flags of a result, conditions.
 #![tactic(auto)]
+
 ghost use Rattle.std.specs.Prelude.{◌≡◌};
 ghost use Rattle.arm.specs.Sums.{add_with_carry};
 ghost use Rattle.arm.specs.Flags.{with_nz, with_nzc, with_nzcv};

@@ -1,5 +1,6 @@
 // Which call, tail call or return a service asks of an image.
 #![tactic(auto)]
+
 ghost use Rattle.std.specs.Prelude.{◌≡◌};
 ghost use Rattle.asking.specs.Asking.{asked_by, asked_in};
 

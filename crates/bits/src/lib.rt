@@ -1,5 +1,6 @@
 // Bit fields of words: taken by a shift and a mask, joined by a shift and an or, and read as integers.
 #![tactic(auto)]
+
 ghost use Rattle.std.specs.Prelude.{◌≡◌, suc, ◌/◌, ◌%◌, ◌^◌, ◌<◌};
 ghost use Rattle.std.specs.Int.Signed.{mag};
 ghost use Rattle.bits.specs.Fields.{concat};

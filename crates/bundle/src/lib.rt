@@ -1,5 +1,6 @@
 // The successors of a bundle, and the reader.
 #![tactic(auto)]
+
 ghost use Rattle.std.specs.Prelude.{◌≡◌, List, ℕ, ◌<◌};
 ghost use Rattle.prefix.specs.Prefix.{goes};
 ghost use Rattle.prefix.specs.LargestSuccessor.{largest_successor, reading_of};

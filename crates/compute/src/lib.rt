@@ -1,5 +1,6 @@
 // What a data-processing instruction writes: each is found here by its encoding.
 #![tactic(auto)]
+
 ghost use Rattle.std.specs.Prelude.{◌≡◌};
 ghost use Rattle.state.specs.Record.{register_in};
 ghost use Rattle.compute.specs.Computed as definitions;

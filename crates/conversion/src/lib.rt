@@ -1,5 +1,6 @@
 // What the two programs write for an input, the other form or the line of a refusal, as bytes in lent room.
 #![tactic(auto)]
+
 ghost use Rattle.std.specs.Prelude.{◌≡◌, length};
 ghost use Rattle.refusal.specs.Refusals.{refusal_number, refusal_values};
 ghost use Rattle.refusal_line.specs.RefusalLine.{refused_text};

@@ -1,5 +1,6 @@
 // The count of a program: its greatest closed prefix, in a single pass from the last bundle back.
 #![tactic(auto)]
+
 ghost use Rattle.std.specs.Prelude.{◌≡◌};
 ghost use Rattle.platform.specs.Programs.{program_of};
 ghost use Rattle.count.specs.Count.{count_program, seen_count};

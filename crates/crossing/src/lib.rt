@@ -1,5 +1,6 @@
 // The answers of the library's calls in numbers, as C has them.
 #![tactic(auto)]
+
 ghost use Rattle.std.specs.Prelude.{◌≡◌, get_or};
 ghost use Rattle.refusal.specs.Refusals.{carried_values, decision_of};
 ghost use Rattle.prefix.specs.LargestSuccessor.{reading_of};

@@ -1,5 +1,6 @@
 // What services do to registers, SP, base and RAM, and which fault they meet; never the place.
 #![tactic(auto)]
+
 ghost use Rattle.std.specs.Prelude.{◌≡◌, length};
 ghost use Rattle.access.specs.Outcomes.{does, Does, DoesAny};
 ghost use Rattle.writing.specs.Writes.{writes_nothing};

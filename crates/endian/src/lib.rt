@@ -1,5 +1,6 @@
 // Little-endian numbers of 1, 2 and 4 bytes anywhere in bytes. What is shared is proved once, over the size.
 #![tactic(auto)]
+
 ghost use Rattle.std.specs.Prelude.{◌≡◌, get_or, set};
 ghost use Rattle.endian.specs.LittleEndian.{width_of, load_le, store_le};
 

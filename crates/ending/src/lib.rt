@@ -1,5 +1,6 @@
 // Exits and terminators among the services, for the reader and the machine alike.
 #![tactic(auto)]
+
 ghost use Rattle.std.specs.Prelude.{◌≡◌};
 ghost use Rattle.platform.specs.Programs.{program_of};
 ghost use Rattle.ending.specs.Endings.{ending_of, last_syscall, ending_on, ending_in};

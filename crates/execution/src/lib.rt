@@ -1,5 +1,6 @@
 // One instruction as code: how it ends, what it writes and where the run then stands. Data processing is the run's own.
 #![tactic(auto)]
+
 ghost use Rattle.std.specs.Prelude.{◌≡◌, ◌<◌, eqb, pos, not};
 ghost use Rattle.platform.specs.Programs.{program_of, setting_of};
 ghost use Rattle.bits.specs.Fields.{bits};

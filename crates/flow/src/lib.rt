@@ -1,5 +1,6 @@
 // Terminators, and how the flow goes on at an instruction.
 #![tactic(auto)]
+
 ghost use Rattle.std.specs.Prelude.{◌≡◌};
 ghost use Rattle.platform.specs.Programs.{program_of};
 ghost use Rattle.flow.specs.Flow.{jump_to, service_jump, jump_of, flow_by, flow_of};

@@ -1,5 +1,6 @@
 // Storing a record and reading it back: 44 bytes, and the range of each value.
 #![tactic(auto)]
+
 ghost use Rattle.std.specs.Prelude.{◌≡◌};
 ghost use Rattle.layout.specs.StoredForm.{offset_in_range, range_rules};
 ghost use Rattle.refusal.specs.Refusals.{decision, decision_of};

@@ -1,5 +1,6 @@
 // Records in lent room of 44 bytes, as a host's calls take and give them.
 #![tactic(auto)]
+
 ghost use Rattle.std.specs.Prelude.{◌≡◌};
 ghost use Rattle.refusal.specs.Refusals.{decision_of};
 ghost use Rattle.forming.specs.Crossing.{form_decision, form_room};

@@ -1,5 +1,6 @@
 // Frames on the stack, as source document 002 has them: eight words, written and read as one access of 32 bytes.
 #![tactic(auto)]
+
 ghost use Rattle.std.specs.Prelude.{◌*◌, ◌<◌, ◌≡◌};
 ghost use Rattle.endian.specs.LittleEndian.{load_le};
 ghost use Rattle.memory.specs.Memory.{ram_access, after_if};

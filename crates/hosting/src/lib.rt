@@ -1,5 +1,6 @@
 // Steps and runs for a host: a record comes as its bytes and goes back to them, and a stop is told by numbers.
 #![tactic(auto)]
+
 ghost use Rattle.std.specs.Prelude.{◌≡◌};
 ghost use Rattle.refusal.specs.Refusals.{when_accepted, decision_of};
 ghost use Rattle.platform.specs.Programs.{program_of, setting_of};

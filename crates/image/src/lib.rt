@@ -1,5 +1,6 @@
 // Images: pages of 256 bytes, one behind the other, and beside them an index, a byte for each page: the page's count.
 #![tactic(auto)]
+
 ghost use Rattle.std.specs.Prelude.{◌+◌, ◌*◌, ◌<◌, ◌≤◌, [], ◌∷◌, ◌≡◌, length};
 ghost use Rattle.std.proofs.Math.Seq.{paste};
 ghost use Rattle.refusal.specs.Refusals.{decision, decision_of};

@@ -1,5 +1,6 @@
 // Steps and runs in a page of an image. The page is run as a lone one is; what is refused goes by the image and its index.
 #![tactic(auto)]
+
 ghost use Rattle.std.specs.Prelude.{◌<◌, [], ◌∷◌, ◌≡◌, length};
 ghost use Rattle.refusal.specs.Refusals.{decision, decision_of};
 ghost use Rattle.platform.specs.Programs.{program_of, setting_of};

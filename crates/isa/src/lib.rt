@@ -1,5 +1,6 @@
 // The instructions, and which halfwords open a 32-bit one. The listed encodings are in `specs`.
 #![tactic(auto)]
+
 ghost use Rattle.std.specs.Prelude.{◌≡◌};
 ghost use Rattle.isa.specs.ListedEncodings.{opens32};
 

@@ -1,5 +1,6 @@
 // Halfwords to instructions: the listed 16-bit encodings and no others.
 #![tactic(auto)]
+
 ghost use Rattle.std.specs.Prelude.{◌≡◌, ◌/◌, ◌^◌};
 ghost use Rattle.isa.specs.ListedEncodings.{decode16_of};
 ghost use Rattle.isa16.specs.Classes.{class_of, operands_of};

@@ -1,5 +1,6 @@
 // Pairs of halfwords to instructions: the listed 32-bit encodings and no others.
 #![tactic(auto)]
+
 ghost use Rattle.std.specs.Prelude.{◌≡◌};
 ghost use Rattle.isa.specs.ListedEncodings.{decode_by, listed32, arithmetic32, decode32_of, imm16_of};
 

@@ -1,5 +1,6 @@
 // The 44 bytes of a record. A record is thirteen values, and a value goes to the bytes of its field.
 #![tactic(auto)]
+
 ghost use Rattle.std.specs.Prelude.{◌≡◌, ◌<◌, ◌^◌, eqb, length, get_or};
 ghost use Rattle.bits.specs.Fields.{bit};
 ghost use Rattle.endian.specs.LittleEndian.{width_of};

@@ -1,5 +1,6 @@
 // Numbers in groups of seven bits, lowest group first, top bit set while more follow, always the shortest: unsigned LEB128.
 #![tactic(auto)]
+
 ghost use Rattle.std.specs.Prelude.{◌≡◌, ◌≤◌};
 ghost use Rattle.text.specs.Text.{Puts};
 ghost use Rattle.leb128.specs.Leb128.{leb128, number_in, read_number, seen_found};

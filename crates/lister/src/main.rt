@@ -1,5 +1,6 @@
 // Lists a page that is read as raw bytes from standard input.
 #![tactic(auto)]
+
 use streams::Input;
 
 fn main() {

@@ -1,6 +1,7 @@
 // The lines that the lister prints for a page that is accepted. Each is put behind the first bytes of a text, of which there are
 // at, and answers where the text then ends.
 #![tactic(auto)]
+
 ghost use Rattle.prefix.specs.LargestSuccessor.{reading_of};
 ghost use Rattle.text.specs.Text.{Puts};
 ghost use Rattle.lister_lines.specs.Lines.{head_text, bundle_text, inside_text, largest_text};

@@ -1,5 +1,6 @@
 // The lister's whole output for a page, made as bytes in lent room.
 #![tactic(auto)]
+
 ghost use Rattle.std.specs.Prelude.{◌≡◌, true, ◌++◌, ◌<◌, length};
 ghost use Rattle.page.specs.Page.{page_fits, bundles_in};
 ghost use Rattle.platform.specs.Programs.{default_program};

@@ -1,5 +1,6 @@
 // The services, and what a literal word means of them.
 #![tactic(auto)]
+
 ghost use Rattle.std.specs.Prelude.{◌≡◌};
 ghost use Rattle.literal.specs.Literals.{literal_of, call_of, syscall_of, address_operation_of};
 

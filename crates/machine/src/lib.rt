@@ -1,5 +1,6 @@
 // A step, and a run with a budget.
 #![tactic(auto)]
+
 ghost use Rattle.std.specs.Prelude.{◌≡◌, ◌≤◌, length};
 ghost use Rattle.platform.specs.Programs.{program_of, setting_of};
 ghost use Rattle.plain.specs.PlainMachine.{plain};

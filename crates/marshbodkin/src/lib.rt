@@ -2,6 +2,7 @@
 // numbers and bytes. A record crosses as its 44 bytes, fit or not. Bit n of `never_return` says that direct syscall n never returns;
 // `profile` is 0, full, or 1, small; any other is refused. A window of RAM is its start and its end.
 #![tactic(auto)]
+
 ghost use Rattle.std.specs.Prelude.{◌≡◌, length};
 ghost use Rattle.window.specs.Windows.{window_of};
 ghost use Rattle.platform.specs.Platforms.{platform_of};

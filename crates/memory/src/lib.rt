@@ -1,5 +1,6 @@
 // Loads and stores: RAM, the external page, and by a base.
 #![tactic(auto)]
+
 ghost use Rattle.std.specs.Prelude.{◌≡◌, min, ◌*◌, ◌%◌, ◌^◌};
 ghost use Rattle.words.specs.Bitwise.{sign_extended};
 ghost use Rattle.endian.specs.LittleEndian.{width_of};

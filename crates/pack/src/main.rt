@@ -1,5 +1,6 @@
 // Writes the short form of a stored record, which is read as raw bytes from standard input.
 #![tactic(auto)]
+
 use streams::Input;
 
 fn main() {

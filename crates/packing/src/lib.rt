@@ -1,5 +1,6 @@
 // From the 44-byte form of a record to the short one, and back.
 #![tactic(auto)]
+
 ghost use Rattle.std.specs.Prelude.{◌≡◌};
 ghost use Rattle.refusal.specs.Refusals.{decision_of};
 ghost use Rattle.short_form.specs.ShortStoring.{seen_packed};

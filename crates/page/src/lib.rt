@@ -1,5 +1,6 @@
 // The bytes of a page, as bytes, halfwords and words.
 #![tactic(auto)]
+
 ghost use Rattle.std.specs.Prelude.{◌≡◌, ◌+◌, ◌*◌};
 ghost use Rattle.page.specs.Page.{first_of, second_of, word_at, page_fits};
 

@@ -1,5 +1,6 @@
 // What stands at a place, and whether the place is fit.
 #![tactic(auto)]
+
 ghost use Rattle.std.specs.Prelude.{◌≡◌};
 ghost use Rattle.platform.specs.Platforms.{encodings_on};
 ghost use Rattle.platform.specs.Programs.{program_of};

@@ -1,5 +1,6 @@
 // What a host says of its machine, and what of a program is refused.
 #![tactic(auto)]
+
 ghost use Rattle.std.specs.Prelude.{◌≡◌};
 ghost use Rattle.refusal.specs.Refusals.{decision, decision_of};
 ghost use Rattle.isa.specs.Profiles.{profile_of, is_known};

@@ -1,5 +1,6 @@
 // What a bundle's successors come to, for the single pass: only the largest counts.
 #![tactic(auto)]
+
 ghost use Rattle.std.specs.Prelude.{◌≡◌, cond};
 ghost use Rattle.prefix.specs.Prefix.{Successors, within};
 ghost use Rattle.prefix.specs.LargestSuccessor.{largest_successor, reading_of, with_successor};

@@ -1,6 +1,7 @@
 // What halfwords stand for in a profile. The decoders know the whole list and no profile: the full one takes their answer as it is, at no
 // cost to a run, and any other looks at it.
 #![tactic(auto)]
+
 ghost use Rattle.std.specs.Prelude.{◌≡◌};
 ghost use Rattle.isa.specs.Profiles.{compares_and_branches, decode16_by, decode32_by};
 ghost use Rattle.platform.specs.Platforms.{encodings_on};

@@ -1,5 +1,6 @@
 // Why a call is refused.
 #![tactic(auto)]
+
 ghost use Rattle.std.specs.Prelude.{◌≡◌};
 ghost use Rattle.refusal.specs.Refusals.{when_accepted, refusal_number, refusal_values, carried_values, decision_of};
 

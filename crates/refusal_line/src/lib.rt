@@ -1,6 +1,7 @@
 // The line of a refusal, which every program prints the same way. Each of these puts its text behind the first bytes of a text, of
 // which there are at, and answers where the text then ends.
 #![tactic(auto)]
+
 ghost use Rattle.refusal.specs.Refusals.{refusal_number, refusal_values, carried_values};
 ghost use Rattle.text.specs.Text.{Puts};
 ghost use Rattle.refusal_line.specs.RefusalLine.{values_text, refused_text};

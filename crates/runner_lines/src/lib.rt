@@ -1,6 +1,7 @@
 // The lines that the runner prints. Each is put behind the first bytes of a text, of which there are at, and answers where the
 // text then ends.
 #![tactic(auto)]
+
 ghost use Rattle.stop.specs.Stops.{reason_of};
 ghost use Rattle.text.specs.Text.{Puts};
 ghost use Rattle.runner_lines.specs.Lines.{service_text, stop_text, steps_text, place_text};

@@ -1,5 +1,6 @@
 // What a service halfword means, for the reader and the machine alike.
 #![tactic(auto)]
+
 ghost use Rattle.std.specs.Prelude.{◌≡◌};
 ghost use Rattle.service.specs.Services.{literal_service, by_low_byte, service_of};
 

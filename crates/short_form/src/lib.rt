@@ -1,5 +1,6 @@
 // A record in the short stored form: the range of each number, refusals, and the room.
 #![tactic(auto)]
+
 ghost use Rattle.std.specs.Prelude.{◌≡◌, ℕ, ◌<◌, ◌≤◌, ◌^◌, [], ◌∷◌, length, get_or};
 ghost use Rattle.refusal.specs.Refusals.{decision, decision_of};
 ghost use Rattle.layout.specs.StoredForm.{stored_form, field_at};

@@ -1,5 +1,6 @@
 // Thirteen numbers to the bytes of the short stored form and back. The offset is left out for base kind 0.
 #![tactic(auto)]
+
 ghost use Rattle.std.specs.Prelude.{◌≡◌, ◌<◌};
 ghost use Rattle.layout.specs.StoredForm.{stored_form, field_at};
 ghost use Rattle.text.specs.Text.{Puts};

@@ -1,5 +1,6 @@
 // Writes and reads short forms at their edges, and prints what came out.
 #![tactic(auto)]
+
 use refusal::Verdict;
 use state::{Base, Record};
 

@@ -1,5 +1,6 @@
 // The record of the machine, by value, and base validation.
 #![tactic(auto)]
+
 ghost use Rattle.std.specs.Prelude.{[], ◌∷◌, ◌≡◌, cond, ltb, length, set};
 ghost use Rattle.refusal.specs.Refusals.{decision, decision_of};
 ghost use Rattle.state.specs.Record.{register_in, register, with_register, with_sp, with_flags, with_place, with_base, fresh_record};

@@ -5,6 +5,7 @@
 // r0 is at column 0, r1 at 9, SP at 18, the place at 24, C and V together at 29, the budget at 31, and from 40 on stands the page
 // as the paper writes it. The record is fresh otherwise. A line that begins with # is a heading. All are printed as they are.
 #![tactic(auto)]
+
 ghost use Rattle.std.specs.Prelude.{◌≤◌, length};
 
 use arm::Flags;

@@ -1,5 +1,6 @@
 // Why a run stopped.
 #![tactic(auto)]
+
 use memory::Fault;
 use refusal::Refusal;
 

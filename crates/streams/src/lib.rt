@@ -2,6 +2,7 @@
 // What the system gives or takes is open, so the promises are bounds: no more bytes than there is room for, or than a text has.
 // A call that a signal interrupts before it moves a byte counts as one that failed.
 #![tactic(auto)]
+
 ghost use Rattle.std.specs.Prelude.{ℕ, ◌≤◌, ◌≡◌, length};
 
 use libc::{STDERR_FILENO, STDIN_FILENO, STDOUT_FILENO};

@@ -1,5 +1,6 @@
 // Text as bytes: it is made in a buffer, piece by piece, and then goes whole to lent room. No call asks anything of its caller.
 #![tactic(auto)]
+
 ghost use Rattle.std.specs.Prelude.{◌≡◌, [], ◌∷◌, ◌++◌, ◌<◌, length, take};
 ghost use Rattle.text.specs.Digits.{digit, hex, decimal};
 ghost use Rattle.text.specs.Room.{written_of, placed, bytes_written};

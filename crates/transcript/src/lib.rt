@@ -1,5 +1,6 @@
 // The runner's whole output, made as bytes in lent room.
 #![tactic(auto)]
+
 ghost use Rattle.std.specs.Prelude.{◌≡◌, length};
 ghost use Rattle.stop.specs.Stops.{reason_of};
 ghost use Rattle.text.specs.Room.{written_of, placed};

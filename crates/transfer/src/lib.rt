@@ -1,5 +1,6 @@
 // Calls, tail calls and returns between the pages of an image: how they move SP, FP, page and place, and the frame on the stack.
 #![tactic(auto)]
+
 ghost use Rattle.std.specs.Prelude.{◌+◌, ◌-◌, ◌*◌, ◌^◌, ◌<◌, ◌≤◌, ◌≡◌};
 ghost use Rattle.literal.specs.Literals.{call_address, call_words};
 ghost use Rattle.image.specs.Images.{image_of};

@@ -1,5 +1,6 @@
 // The runner's run of a page, and its whole output as bytes in lent room.
 #![tactic(auto)]
+
 ghost use Rattle.std.specs.Prelude.{◌≡◌, length};
 ghost use Rattle.text.specs.Room.{written_of, placed};
 ghost use Rattle.trial.specs.Trial.{trial_of};

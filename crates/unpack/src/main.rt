@@ -1,5 +1,6 @@
 // Writes the stored form of a record whose short form is read as raw bytes from standard input.
 #![tactic(auto)]
+
 use streams::Input;
 
 fn main() {

@@ -1,5 +1,6 @@
 // Runs the pages and edges of the build paper that are not starred, and the refusals, and prints what came out.
 #![tactic(auto)]
+
 use endian::Size;
 use memory::{Attempt, Fault, Loaded};
 use platform::Platform;

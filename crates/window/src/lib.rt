@@ -1,5 +1,6 @@
 // 02's window of RAM: what of it a run may read and write.
 #![tactic(auto)]
+
 ghost use Rattle.std.specs.Prelude.{[], ◌∷◌, ◌≡◌};
 ghost use Rattle.refusal.specs.Refusals.{decision, decision_of};
 ghost use Rattle.window.specs.Windows.{whole_ram, window_rule, inside_window};

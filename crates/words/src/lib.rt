@@ -1,6 +1,7 @@
 // Operations of the manual's pseudocode on words, without flags: shifts with carry out, multiplication and division, bitwise
 // operations, extension.
 #![tactic(auto)]
+
 ghost use Rattle.std.specs.Prelude.{◌≡◌, min, ◌^◌, ◌<◌, nat_abs};
 ghost use Rattle.std.specs.Int.Bits.{bit_and, bit_or, bit_xor};
 ghost use Rattle.std.specs.Int.Signed.{mag, shr_z, quot_z};

@@ -1,5 +1,6 @@
 // What an instruction writes, and the record afterwards.
 #![tactic(auto)]
+
 ghost use Rattle.std.specs.Prelude.{◌≡◌};
 ghost use Rattle.writing.specs.Writes as writes;
 

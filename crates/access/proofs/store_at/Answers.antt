@@ -6,5 +6,4 @@ pub returns : goal.returns
 returns c = (
   rw (← c.stack_store.ensures.0) (c.stored.ensures _),
   rw (c.stack_store.ensures.1, c.register_of.ensures) (stack_ram _ _ _ _ _),
-
 )

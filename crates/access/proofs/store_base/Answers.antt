@@ -6,5 +6,4 @@ pub returns : goal.returns
 returns c = (
   rw (← c.store_by.ensures.0) (c.stored.ensures _),
   rw (c.store_by.ensures.1, c.register_of.ensures) (base_ram _ _ _ _ _ _ _),
-
 )

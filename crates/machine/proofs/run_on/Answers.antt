@@ -55,7 +55,6 @@ loop-steps-preserved c = (
   omega arith,
   omega arith,
   search rules,
-
 )
 
 pub overflow_add-steps-in-Exits : goal.overflow_add-steps-in-Exits

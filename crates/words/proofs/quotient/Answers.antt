@@ -14,7 +14,6 @@ pub nonzero_div-result : goal.nonzero_div-result
 nonzero_div-result c = (
   bits_pos c.args.b c.requires.2 c.requires.0,
   rw (to_z-of_z w64 c.args.a c.ranges.a, to_z-of_z w64 c.args.b c.ranges.b) (fits c),
-
 )
 
 pub returns : goal.returns
