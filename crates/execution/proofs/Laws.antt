@@ -30,7 +30,7 @@ use Rattle.stop.specs.Stops.{Exit}
 use Rattle.plain.specs.PlainMachine.{Effect, goes_on, exits}
 use Rattle.place.specs.Places.{instruction_at, following}
 use Rattle.instruction.specs.Instructions.{end_at, branch_to, branch_if, exit_of, served_by, served}
-use Rattle.execution.specs.Executed.{exit_end, Ended, executed_of, effect_ram, ended_by, not_data, executable}
+use Rattle.execution.specs.Executed.{exit_end, Ended, executed_of, effect_ram, ended_by, NotData, not_data, executable}
 use Rattle.execution.specs.declared.End.{End}
 use Rattle.execution.specs.declared.End.TheVariants.{GoesOn}
 
@@ -89,9 +89,6 @@ behind_near page place next e = rw e (by (opens32 (first_of page (place / 2))))
     by false = omega arith
 
 -- ---- at a place of a page
-
-abbrev pub NotData : Instruction → Type 0
-NotData i = (operation : Operation) → i ≡ instruction.Data operation → ⊥
 
 not_data_lem : (i : Instruction) → NotData i → not_data i ≡ i
 unfolding not_data

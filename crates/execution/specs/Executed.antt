@@ -1,5 +1,6 @@
 -- What the code gives back for an instruction: how it ended, and what it writes.
 use Rattle.std.specs.Prelude.{ℕ, List, ◌≡◌, cond, ltb}
+use Rattle.isa.specs.declared.Operation.{Operation}
 use Rattle.isa.specs.declared.Instruction.{Instruction}
 use Rattle.isa.specs.declared.Instruction.TheVariants as instruction
 use Rattle.writing.specs.Writes.{applied}
@@ -48,6 +49,9 @@ ExecutesAny r e x = (ram : List ℕ) → after r x ≡ executed_of r (e ram)
 unfoldable pub ended_by : End → Record → ℕ → Did → Ended
 ended_by end r place (did.Writes w) = record { end = end; rec = applied r w place }
 ended_by end r place (did.Fails fault) = record { end = Fails fault; rec = r }
+
+abbrev pub NotData : Instruction → Type 0
+NotData i = (operation : Operation) → i ≡ instruction.Data operation → ⊥
 
 -- a data-processing instruction is the run's own, and counts as unlisted here
 unfoldable pub not_data : Instruction → Instruction

@@ -1,7 +1,6 @@
 use Rattle.bits.proofs.Laws.{one_shl, shift_mask, no_field, whole_field}
 use native.Mathlib.Omega.{arith}
 use lib.Pow.{pow_pos}
-use borrow.Author.Rules.{rules}
 use Rattle.bits.proofs.field.Goals as goal
 
 pub returns-then-lo-ge32 : goal.returns-then-lo-ge32

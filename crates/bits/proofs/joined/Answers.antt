@@ -4,7 +4,6 @@ use native.Mathlib.Nat.{div-one, mod-lt}
 use native.Mathlib.Omega.{arith}
 use lib.Pow.{pow_pos}
 use Rattle.bits.proofs.Laws.{shift_or, join_past}
-use borrow.Author.Rules.{rules}
 use Rattle.bits.proofs.joined.Goals as goal
 
 pub returns-then-n-ge32 : goal.returns-then-n-ge32

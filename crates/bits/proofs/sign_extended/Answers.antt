@@ -7,7 +7,6 @@ use mir.Syntax.{w64}
 use mir.ValLaws.{to_z_pos}
 use Rattle.laws.proofs.Integers.{read}
 use Rattle.bits.proofs.Integers.{no_sign}
-use borrow.Author.Rules.{rules}
 use Rattle.bits.proofs.sign_extended.Goals as goal
 
 pub returns-then-n-eq0 : goal.returns-then-n-eq0

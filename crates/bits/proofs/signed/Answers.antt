@@ -4,7 +4,6 @@ use lib.Dec.{lit<}
 use mir.Syntax.{w64}
 use mir.ValLaws.{to_z_pos, to_z-of_z}
 use Rattle.bits.proofs.Integers.{small_lem, less_whole, less_fits, with_top, without_top}
-use borrow.Author.Rules.{rules}
 use Rattle.bits.proofs.signed.Goals as goal
 
 pub overflow_sub-result : goal.overflow_sub-result

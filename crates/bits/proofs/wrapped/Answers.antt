@@ -1,6 +1,5 @@
 use mathlib.Core.Path.{◌≡◌, ap, subst⁻¹, ◌∙◌}
 use Prim.Native.Nat.{◌^◌}
-use native.Mathlib.Omega.{arith}
 use lib.IntN.{ℤ, pos, nat_abs, ◌+ℤ◌}
 use lib.Signed.{non_neg}
 use lib.Dec.{T, lit<}

@@ -1,6 +1,5 @@
 use mathlib.Core.Path.{sym}
 use lib.Seq.{set_out}
-use borrow.Author.Rules.{rules}
 use Rattle.endian.proofs.set_byte.Goals as goal
 
 pub returns-else-i-bytes : goal.returns-else-i-bytes

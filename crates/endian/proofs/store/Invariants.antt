@@ -1,10 +1,7 @@
-use mathlib.Core.Path.{◌≡◌, refl, sym, ap, ◌∙◌}
+use mathlib.Core.Path.{◌≡◌}
 use Prim.Native.Nat.{◌+◌, ◌-◌, ◌≤◌}
-use native.Mathlib.Omega.{arith}
-use borrow.Author.Rules.{rules}
-use lib.ListN.{length, length-set}
+use lib.ListN.{length}
 use Rattle.endian.specs.LittleEndian.{store_le}
-use Rattle.endian.proofs.Theorems.{store_step, store_start, store_end, width_le}
 use Rattle.endian.proofs.store.Given as goal
 
 abbrev pub invariant-loop-i : goal.invariant-loop-i

@@ -1,7 +1,6 @@
 use mathlib.Core.Path.{refl}
 use borrow.Author.Tests.{lt-ltb, le-ltb}
 use Rattle.prefix.proofs.Successors.{bound_by}
-use borrow.Author.Rules.{rules}
 use Rattle.prefix.proofs.bound_after.Goals as goal
 
 pub returns-in-Bad : goal.returns-in-Bad

@@ -2,7 +2,6 @@ use mathlib.Core.Path.{ap, refl}
 use native.Mathlib.Omega.{arith}
 use Rattle.prefix.specs.LargestSuccessor.{largest}
 use Rattle.prefix.proofs.Successors.{raised_by}
-use borrow.Author.Rules.{rules}
 use Rattle.prefix.proofs.with_successor.Goals as goal
 
 pub returns-in-Bad : goal.returns-in-Bad

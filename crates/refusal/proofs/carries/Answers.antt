@@ -1,4 +1,3 @@
-use borrow.Author.Rules.{rules}
 use Rattle.refusal.proofs.carries.Goals as goal
 
 pub returns-in-PageLength : goal.returns-in-PageLength

@@ -1,4 +1,3 @@
-use borrow.Author.Rules.{rules}
 use Rattle.refusal.proofs.first_of.Goals as goal
 
 pub returns-in-Refused : goal.returns-in-Refused

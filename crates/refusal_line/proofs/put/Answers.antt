@@ -1,6 +1,5 @@
 use Rattle.text.proofs.Laws.{◌then◌}
 use Rattle.refusal_line.specs.RefusalLine.{refused_text}
-use borrow.Author.Rules.{rules}
 use Rattle.refusal_line.proofs.put.Goals as goal
 
 pub returns : goal.returns

@@ -1,7 +1,6 @@
 use mathlib.Core.List.{append-nil}
 use Rattle.text.proofs.Laws.{◌then◌}
 use Rattle.refusal_line.specs.RefusalLine.{values_text}
-use borrow.Author.Rules.{rules}
 use Rattle.refusal_line.proofs.put_values.Goals as goal
 
 pub returns-in-Nothing : goal.returns-in-Nothing

@@ -1,4 +1,3 @@
-use borrow.Author.Rules.{rules}
 use Rattle.text.proofs.Laws.{◌then◌}
 use Rattle.text.proofs.number_line.Goals as goal
 

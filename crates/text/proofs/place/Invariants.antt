@@ -1,11 +1,8 @@
 -- The loop has copied the first i bytes of the text over those of the room.
-use mathlib.Core.Path.{◌≡◌, refl}
+use mathlib.Core.Path.{◌≡◌}
 use mathlib.Core.List.{◌++◌}
-use Prim.Native.Nat.{◌≤◌, ◌<◌, ◌-◌}
-use native.Mathlib.Omega.{arith}
-use lib.ListN.{length, take, drop, length-set}
-use lib.Seq.{take_all}
-use Rattle.text.proofs.Room.{copied, fitted, refused}
+use Prim.Native.Nat.{◌≤◌, ◌-◌}
+use lib.ListN.{length, take, drop}
 use Rattle.text.proofs.place.Given as goal
 
 -- The loop has copied the first i bytes of the text over those of the room.

@@ -1,10 +1,8 @@
-use Prim.Native.Nat.{◌≤◌, ◌<◌, ◌-◌}
+use Prim.Native.Nat.{◌≤◌, ◌<◌}
 use native.Mathlib.Numerals.{add-one}
 use native.Mathlib.Omega.{arith}
-use lib.ListN.{length, take}
+use lib.ListN.{length}
 use lib.Seq.{take-suc, take_all}
-use borrow.Author.Rules.{rules}
-use Rattle.text.specs.Text.{Puts}
 use Rattle.text.proofs.Laws.{unchanged_lem, keeps_length, ◌then◌}
 use Rattle.text.proofs.put.Goals as goal
 

@@ -1,12 +1,7 @@
 -- The loop has put the first i bytes of the piece.
-use Prim.Native.Nat.{◌≤◌, ◌<◌, ◌-◌}
-use native.Mathlib.Numerals.{add-one}
-use native.Mathlib.Omega.{arith}
+use Prim.Native.Nat.{◌≤◌, ◌-◌}
 use lib.ListN.{length, take}
-use lib.Seq.{take-suc, take_all}
-use borrow.Author.Rules.{rules}
 use Rattle.text.specs.Text.{Puts}
-use Rattle.text.proofs.Laws.{unchanged_lem, keeps_length, ◌then◌}
 use Rattle.text.proofs.put.Given as goal
 
 -- The loop has put the first i bytes of the piece.

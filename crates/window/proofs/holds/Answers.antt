@@ -2,7 +2,6 @@ use native.Mathlib.Omega.{arith}
 use borrow.Author.Tests.{le-leb, lt-leb}
 use Rattle.window.specs.Windows.{inside_window}
 use Rattle.window.proofs.Laws.{too_many, past_last, up_to_last}
-use borrow.Author.Rules.{rules}
 use Rattle.window.proofs.holds.Goals as goal
 
 -- the offset and the bytes fit
