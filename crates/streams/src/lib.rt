@@ -1,10 +1,12 @@
-// Standard input and standard output. Each read or write that fails is told on standard error, in words after the program's name.
+// Standard input and standard output, or a reader and a writer in their place. Each read or write that fails is told on standard
+// error, in words after the program's name.
 // What the system gives or takes is open, so the promises are bounds: no more bytes than there is room for, or than a text has.
 // A call that a signal interrupts before it moves a byte counts as one that failed.
 #![tactic(auto)]
+
 ghost use Rattle.std.specs.Prelude.{ℕ, ◌≤◌, ◌≡◌, length};
 
-use libc::{STDERR_FILENO, STDIN_FILENO, STDOUT_FILENO};
+use std::io::{Read, Write};
 
 // How many bytes were read, or that a read failed.
 #[derive(Clone, Copy)]
@@ -14,24 +16,27 @@ pub enum Input {
 }
 
 // Where this fails too, there is nobody left to tell.
-fn tell(program: &[u8], words: &[u8]) {
-    io::write_all(STDERR_FILENO, program);
-    io::write_all(STDERR_FILENO, words);
+fn tell(errors: &mut impl Write, program: &[u8], words: &[u8]) {
+    let _ = errors.write_all(program);
+    let _ = errors.write_all(words);
 }
 
 // Reads to the start of the room until it is full or the input ends.
-pub fn read_input(program: &[u8], room: &mut [u8]) -> Input
+pub fn read_input(
+    input: &mut impl Read,
+    errors: &mut impl Write,
+    program: &[u8],
+    room: &mut [u8],
+) -> Input
     ensures { (n : ℕ) → result ≡ Input.Bytes n → n ≤ length room.old }
 {
     let mut done = 0;
     while done < room.len() {
         let part = &mut room[done..];
-        let got = libc::read(STDIN_FILENO, part);
-        let more = io::count(got, part);
-        if got < 0 {
-            tell(program, b": standard input can't be read\n");
+        let Ok(more) = input.read(part) else {
+            tell(errors, program, b": standard input can't be read\n");
             return Input::Failed;
-        }
+        };
         if more == 0 {
             return Input::Bytes(done);
         }
@@ -41,15 +46,20 @@ pub fn read_input(program: &[u8], room: &mut [u8]) -> Input
 }
 
 // Writes the text up to its end or to a write that fails, and answers how many bytes that were.
-pub fn write_output(program: &[u8], text: &[u8]) -> usize
+pub fn write_output(
+    output: &mut impl Write,
+    errors: &mut impl Write,
+    program: &[u8],
+    text: &[u8],
+) -> usize
     ensures { result ≤ length text.now }
 {
     let mut done = 0;
     while done < text.len() {
         let part = &text[done..];
-        let taken = io::count(libc::write(STDOUT_FILENO, part), part);
+        let taken = output.write(part).unwrap_or(0);
         if taken == 0 {
-            tell(program, b": standard output can't be written\n");
+            tell(errors, program, b": standard output can't be written\n");
             return done;
         }
         done += taken;
