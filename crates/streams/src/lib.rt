@@ -1,10 +1,12 @@
 // Standard input and standard output, or a reader and a writer in their place. Each read or write that fails is told on standard
 // error, in words after the program's name.
-// What the system gives or takes is open, so the promises are bounds: no more bytes than there is room for, or than a text has.
-// A call that a signal interrupts before it moves a byte counts as one that failed.
+// What the system gives or takes is open, so of it the promises are bounds: no more bytes than there is room for, or than a text
+// has. Of a reader or a writer whose bytes are known they say which bytes. A call that a signal interrupts before it moves a byte
+// counts as one that failed.
 #![tactic(auto)]
 
-ghost use Rattle.std.specs.Prelude.{ℕ, ◌≤◌, ◌≡◌, length};
+ghost use Rattle.std.specs.Prelude.{ℕ, ◌≤◌, ◌<◌, ◌≡◌, length, take};
+ghost use Rattle.std.specs.Io.KnownBytes.{Appends, Consumes, IsAtEnd};
 
 use std::io::{Read, Write};
 
@@ -22,13 +24,15 @@ fn tell(errors: &mut impl Write, program: &[u8], words: &[u8]) {
 }
 
 // Reads to the start of the room until it is full or the input ends.
-pub fn read_input(
-    input: &mut impl Read,
-    errors: &mut impl Write,
+pub fn read_input<R: Read, E: Write>(
+    input: &mut R,
+    errors: &mut E,
     program: &[u8],
     room: &mut [u8],
 ) -> Input
-    ensures { (n : ℕ) → result ≡ Input.Bytes n → n ≤ length room.old }
+    ensures count { (n : ℕ) → result ≡ Input.Bytes n → n ≤ length room.old }
+    ensures bytes { (n : ℕ) → result ≡ Input.Bytes n → Consumes (R.remaining input.old) (R.remaining input.new) (take n room.new) }
+    ensures end { (n : ℕ) → result ≡ Input.Bytes n → n < length room.old → IsAtEnd (R.remaining input.new) }
 {
     let mut done = 0;
     while done < room.len() {
@@ -46,13 +50,14 @@ pub fn read_input(
 }
 
 // Writes the text up to its end or to a write that fails, and answers how many bytes that were.
-pub fn write_output(
-    output: &mut impl Write,
-    errors: &mut impl Write,
+pub fn write_output<W: Write, E: Write>(
+    output: &mut W,
+    errors: &mut E,
     program: &[u8],
     text: &[u8],
 ) -> usize
-    ensures { result ≤ length text.now }
+    ensures count { result ≤ length text.now }
+    ensures bytes { Appends (W.contents output.old) (W.contents output.new) (take result text.now) }
 {
     let mut done = 0;
     while done < text.len() {
