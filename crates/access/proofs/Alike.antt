@@ -19,7 +19,7 @@ use Rattle.memory.specs.declared.Loaded.{Loaded}
 use Rattle.memory.specs.declared.Loaded.TheVariants as loaded
 use Rattle.memory.specs.declared.Attempt.{Attempt}
 use Rattle.memory.specs.declared.Attempt.TheVariants as attempt
-use Rattle.memory.proofs.Alike.{Alike, both, fault, alike_map, Related, BothPass, BothLoaded, LoadsAlike, same_loads, signed_loads, accesses, ram-loads, base-loads}
+use Rattle.memory.proofs.Alike.{Alike, both, fault, alike_map, Related, BothPass, BothLoaded, LoadsAlike, same_loads, signed_loads, accesses, ram_loads, base_loads}
 use Rattle.state.specs.Record.{register}
 use Rattle.state.specs.declared.Base.{Base}
 use Rattle.state.specs.declared.Base.TheVariants.{Nothing, Ram, External}
@@ -61,7 +61,7 @@ module _ (w v : Window) (S : List ℕ → List ℕ → Type 0) (h : Related w v 
 
       go : (low : Bool) → LoadsAlike w v (loaded-by w a low) (loaded-by v b low)
       go true = fault LowStack refl refl refl
-      go false = ram-loads w v S h a b s (address - 0x10000) Word PastStack refl
+      go false = ram_loads w v S h a b s (address - 0x10000) Word PastStack refl
 
   pub stack_load : (t address : ℕ) → Same (load_to r a t (stack_loaded w a address)) (load_to r b t (stack_loaded v b address))
   stack_load t address = load_alike t _ _ (stack_loads address)
@@ -114,18 +114,18 @@ module _ (w v : Window) (S : List ℕ → List ℕ → Type 0) (h : Related w v 
 
   module _ (page external : List ℕ) where
     base-load : (size : Size) (n imm12 : ℕ) → LoadsAlike w v (loaded_base r w a external size n imm12) (loaded_base r v b external size n imm12)
-    base-load size n imm12 = base-loads w v S h a b s r.base (eqb n 9) external imm12 size
+    base-load size n imm12 = base_loads w v S h a b s r.base (eqb n 9) external imm12 size
 
-    pub accesses-alike : (access : Access) → Same (accessed page external w access r a) (accessed page external v access r b)
+    pub accesses_alike : (access : Access) → Same (accessed page external w access r a) (accessed page external v access r b)
     unfolding accessed
-    accesses-alike (LdrLit t imm8) = load_alike t _ _ (literal_loads page r.place imm8)
-    accesses-alike (StrSp t imm8) = stack_store t (r.sp + 4 * imm8)
-    accesses-alike (LdrSp t imm8) = stack_load t (r.sp + 4 * imm8)
-    accesses-alike (Str t imm12) = base_store Word t imm12
-    accesses-alike (Strb t imm12) = base_store Byte t imm12
-    accesses-alike (Strh t imm12) = base_store Halfword t imm12
-    accesses-alike (Ldr n t imm12) = load_alike t _ _ (base-load Word n imm12)
-    accesses-alike (Ldrb n t imm12) = load_alike t _ _ (base-load Byte n imm12)
-    accesses-alike (Ldrh n t imm12) = load_alike t _ _ (base-load Halfword n imm12)
-    accesses-alike (Ldrsb n t imm12) = load_alike t _ _ (signed_loads w v Byte _ _ (base-load Byte n imm12))
-    accesses-alike (Ldrsh n t imm12) = load_alike t _ _ (signed_loads w v Halfword _ _ (base-load Halfword n imm12))
+    accesses_alike (LdrLit t imm8) = load_alike t _ _ (literal_loads page r.place imm8)
+    accesses_alike (StrSp t imm8) = stack_store t (r.sp + 4 * imm8)
+    accesses_alike (LdrSp t imm8) = stack_load t (r.sp + 4 * imm8)
+    accesses_alike (Str t imm12) = base_store Word t imm12
+    accesses_alike (Strb t imm12) = base_store Byte t imm12
+    accesses_alike (Strh t imm12) = base_store Halfword t imm12
+    accesses_alike (Ldr n t imm12) = load_alike t _ _ (base-load Word n imm12)
+    accesses_alike (Ldrb n t imm12) = load_alike t _ _ (base-load Byte n imm12)
+    accesses_alike (Ldrh n t imm12) = load_alike t _ _ (base-load Halfword n imm12)
+    accesses_alike (Ldrsb n t imm12) = load_alike t _ _ (signed_loads w v Byte _ _ (base-load Byte n imm12))
+    accesses_alike (Ldrsh n t imm12) = load_alike t _ _ (signed_loads w v Halfword _ _ (base-load Halfword n imm12))

@@ -29,7 +29,7 @@ use Rattle.plain.specs.PlainMachine.{Effect, goes_on, exits, faults, unlisted, R
 use Rattle.plain.specs.Calls.{call_by}
 use Rattle.plain.proofs.Alike.{go_on, exit, mark, EffectsAlike, RunsAlike, equal, outside, runs_alike}
 use Rattle.instruction.specs.Instructions.{instruction_of}
-use Rattle.instruction.proofs.Windows.{instructions-alike}
+use Rattle.instruction.proofs.Windows.{instructions_alike}
 use Rattle.admission.specs.RunRefusals.{run_decision}
 use Rattle.machine.specs.Runs.{run_of}
 use Rattle.claims.specs.WholeWindow.{unwindowed, WholeWindow}
@@ -102,7 +102,7 @@ module _ (setting : Setting) where
   by_whole : (r : Record) (a b : List ℕ) → a ≡ b
       → EffectsAlike setting.window whole_ram (λ x y. x ≡ y) (instruction_of setting r a) (instruction_of (unwindowed setting) r b)
   by_whole r a b e =
-      instructions-alike setting.window whole_ram (λ x y. x ≡ y) (inside_whole setting.window) r a b e setting.program setting.external
+      instructions_alike setting.window whole_ram (λ x y. x ≡ y) (inside_whole setting.window) r a b e setting.program setting.external
 
   runs_by_whole : (total : ℕ) (r : Record) (ram : List ℕ)
       → RunsAlike setting.window whole_ram (λ x y. x ≡ y) (plain (instruction_of setting) total 0 r ram) (plain (instruction_of (unwindowed setting)) total 0 r ram)

@@ -17,7 +17,7 @@ use Rattle.plain.proofs.Runs.{Leaves}
 use Rattle.series.specs.Windows.{KeepsToWindow}
 use Rattle.series.proofs.Windows.{WithinWindow, keeps_to_window}
 use Rattle.instruction.specs.Instructions.{instruction_of}
-use Rattle.instruction.proofs.Windows.{instructions-alike}
+use Rattle.instruction.proofs.Windows.{instructions_alike}
 use Rattle.admission.specs.RunRefusals.{run_decision}
 use Rattle.claims.proofs.Machines.{code_keeps}
 use Rattle.claims.specs.Demand3.{lone_page, CodeCall, handed_to, gave_by, machine}
@@ -35,7 +35,7 @@ writes_inside : (setting : Setting) (r : Record) (ram : List ℕ)
 writes_inside setting r ram =
     let w = setting.window in
     leaves w (EqualOutside w ram) (instruction_of setting r ram)
-    (instructions-alike w w (λ a b. (a ≡ b) × EqualOutside w ram a) (stays_outside w ram) r ram ram (refl, equal_same _ ram)
+    (instructions_alike w w (λ a b. (a ≡ b) × EqualOutside w ram a) (stays_outside w ram) r ram ram (refl, equal_same _ ram)
     setting.program setting.external)
 
 by_length : (setting : Setting) (r : Record) (a b : List ℕ) → length a ≡ length b → run_decision setting r a ≡ run_decision setting r b
@@ -45,7 +45,7 @@ by_length setting r a b e = rw e
 pub within_window : WithinWindow lone_page
 within_window = record {
   reads_inside = λ s r a b e.
-      instructions-alike s.window s.window _ (equal_inside s.window) r a b e s.program s.external;
+      instructions_alike s.window s.window _ (equal_inside s.window) r a b e s.program s.external;
   writes_inside = writes_inside;
   refuses_by_length = by_length;
 }

@@ -133,7 +133,7 @@ pub fn tell(
     literal: &mut u32,
     position: &mut u32,
 ) -> u32
-    ensures* { λ code. ⌜ record { code = code; kind = kind.new; value = value.new; literal = literal.new; position = position.new } ≡ stop ⌝ }
+    ensures { record { code = result; kind = kind.new; value = value.new; literal = literal.new; position = position.new } ≡ stop }
 {
     *kind = stop.kind;
     *value = stop.value;

@@ -66,21 +66,21 @@ module _ (host : Host) (m : MeetsHost host) where
     ran-no-values =
         call_no_values decided (m.no_values h.setting h.rec h.ram) (host.kind.instruction h.setting) h.budget h.rec h.ram
 
-    pub crossed-ran : host.crossed c.call ≡ crossing ran
-    crossed-ran = m.meets c.call ∙ rw c.holds
+    pub crossed_ran : host.crossed c.call ≡ crossing ran
+    crossed_ran = m.meets c.call ∙ rw c.holds
 
     -- what comes back holds a record
-    pub left-holds : holds_record (host.crossed c.call).bytes ≡ true
-    left-holds = rw crossed-ran (record_holds ran.rec ran-held)
+    pub left_holds : holds_record (host.crossed c.call).bytes ≡ true
+    left_holds = rw crossed_ran (record_holds ran.rec ran-held)
 
     -- and is the result of the record that was lent
-    pub gave-ran : gave_record host c ≡ ran
-    gave-ran =
-        rw crossed-ran
+    pub gave_ran : gave_record host c ≡ ran
+    gave_ran =
+        rw crossed_ran
         (λ i. record { stop = stop_back ran.stop ran-no-values i; steps = ran.steps; rec = record_kept ran.rec ran-held i; ram = ran.ram })
 
   pub keeps_bytes : (c : host.Call) → holds_record (host.lent c).bytes ≡ false → KeepsBytes host c
   keeps_bytes c e = m.meets c ∙ rw e
 
   pub host_keeps : (setting : host.kind.Setting) → KeepsAdmitted (host_machine host setting)
-  host_keeps = keeps_admitted host.kind m.keeps (RecordCall host) (handed_record host) (gave_record host) gave-ran
+  host_keeps = keeps_admitted host.kind m.keeps (RecordCall host) (handed_record host) (gave_record host) gave_ran

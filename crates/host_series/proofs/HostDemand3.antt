@@ -9,7 +9,7 @@ use Rattle.series.specs.Series.{gave_state, Series}
 use Rattle.series.proofs.Theorems.{stays, demand3}
 use Rattle.host_series.specs.Host.{Host}
 use Rattle.host_series.specs.HostSeries.{ByteState, state_in, RecordCall, host_machine, crossed_state, HostSeries, if_held, record_calls, KeepsBytes, Crosses, HostDemand3}
-use Rattle.host_series.proofs.HostCalls.{MeetsHost, left-holds, keeps_bytes, host_keeps}
+use Rattle.host_series.proofs.HostCalls.{MeetsHost, left_holds, keeps_bytes, host_keeps}
 
 module _ (host : Host) (m : MeetsHost host) where
   -- the record calls among them are a series, that leaves the record in the bytes that they leave
@@ -35,7 +35,7 @@ module _ (host : Host) (m : MeetsHost host) where
 
   still_holds : (series_record series_ram : Bool) (c : RecordCall host) (s : ByteState) → holds_record s.rec ≡ true
       → holds_record (left_by (crossed_state host) (other series_record series_ram c.call) s).rec ≡ true
-  still_holds true series_ram c s t = left-holds host m c
+  still_holds true series_ram c s t = left_holds host m c
   still_holds false series_ram c s t = t
 
   other_holds : (series_record series_ram : Bool) (c : host.Call) (s : ByteState) → holds_record s.rec ≡ true
@@ -51,7 +51,7 @@ module _ (host : Host) (m : MeetsHost host) where
   follows setting [] s t h = (t, (tt, refl))
   follows setting (own c ∷ cs) s t h =
       let holds : holds_record (host.lent c).bytes ≡ true = ap (λ (x : ByteState). holds_record x.rec) h.0.1 ∙ t in
-      let rest = follows setting cs (crossed_state host c) (left-holds host m (record { call = c; holds = holds })) h.1 in
+      let rest = follows setting cs (crossed_state host c) (left_holds host m (record { call = c; holds = holds })) h.1 in
       ((t, keeps_bytes host m c, rest.0), go (holds_record (host.lent c).bytes) refl holds rest.1)
     where
       go : (b : Bool) (e : holds_record (host.lent c).bytes ≡ b) → b ≡ true → Follows setting (record_calls host cs) cs (crossed_state host c)

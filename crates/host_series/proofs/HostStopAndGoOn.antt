@@ -7,7 +7,7 @@ use Rattle.hosting.specs.Crossed.{crossing}
 use Rattle.host_series.specs.Host.{Host}
 use Rattle.host_series.specs.HostSeries.{ByteState, host_machine, lent_state}
 use Rattle.host_series.specs.HostStopAndGoOn.{HostStopAndGoOn}
-use Rattle.host_series.proofs.HostCalls.{MeetsHost, crossed-ran, left-holds, gave-ran, keeps_bytes, host_keeps}
+use Rattle.host_series.proofs.HostCalls.{MeetsHost, crossed_ran, left_holds, gave_ran, keeps_bytes, host_keeps}
 
 module _ (host : Host) (m : MeetsHost host) where
   same_kept : (c other : host.Call) → (host.lent other).setting ≡ (host.lent c).setting → lent_state host other ≡ lent_state host c
@@ -20,7 +20,7 @@ module _ (host : Host) (m : MeetsHost host) where
   pub host_stop_and_go_on : (setting : host.kind.Setting) → HostStopAndGoOn host setting
   host_stop_and_go_on setting = record {
     stop_and_go_on = stop_and_go_on (host_machine host setting) (host_keeps host m setting);
-    holds = left-holds host m;
-    comes_back = λ c. crossed-ran host m c ∙ ap crossing (sym (gave-ran host m c));
+    holds = left_holds host m;
+    comes_back = λ c. crossed_ran host m c ∙ ap crossing (sym (gave_ran host m c));
     no_record = same_kept;
   }

@@ -17,7 +17,7 @@ use Rattle.hosting.specs.Crossed.{Crossed, crossing, no_record_rules}
 use Rattle.host_series.specs.Host.{Host}
 use Rattle.host_series.specs.HostSeries.{RecordCall, handed_record, gave_record, RefusesHost}
 use Rattle.host_series.specs.HostWindows.{EqualCrossed, window_lent, HostWindows}
-use Rattle.host_series.proofs.HostCalls.{crossed_from, MeetsHost, crossed-ran, keeps_bytes, host_keeps}
+use Rattle.host_series.proofs.HostCalls.{crossed_from, MeetsHost, crossed_ran, keeps_bytes, host_keeps}
 
 module _ (host : Host) (m : MeetsHost host) where
   -- ---- bytes outside
@@ -29,7 +29,7 @@ module _ (host : Host) (m : MeetsHost host) where
       go : (t : Bool) → holds_record (host.lent c).bytes ≡ t → EqualOutside (window_lent host c) (host.lent c).ram (host.crossed c).ram
       go true e =
           let held : RecordCall host = record { call = c; holds = e } in
-          rw (crossed-ran host m held) (called_outside host.kind m.within (handed_record host held))
+          rw (crossed_ran host m held) (called_outside host.kind m.within (handed_record host held))
       go false e = rw (keeps_bytes host m c e) (equal_same _ (host.lent c).ram)
 
   -- a refused one leaves all of RAM
@@ -37,7 +37,7 @@ module _ (host : Host) (m : MeetsHost host) where
   refused_stays c why = go (holds_record (host.lent c).bytes) refl
     where
       go : (t : Bool) → holds_record (host.lent c).bytes ≡ t → (host.crossed c).ram ≡ (host.lent c).ram
-      go true e = ap (λ (x : Crossed). x.ram) (crossed-ran host m (record { call = c; holds = e })) ∙ rw (why e).2
+      go true e = ap (λ (x : Crossed). x.ram) (crossed_ran host m (record { call = c; holds = e })) ∙ rw (why e).2
       go false e = rw (keeps_bytes host m c e)
 
   -- ---- two calls
@@ -76,9 +76,9 @@ module _ (host : Host) (m : MeetsHost host) where
   host_windows setting = record {
     keeps_to_window =
         keeps_to_window host.kind m.within (RecordCall host) (handed_record host) (gave_record host) setting (host_keeps host m setting);
-    outside-stays = λ w cs ram h.
+    outside_stays = λ w cs ram h.
         rams_stay (λ c. ram_alone (host.crossed c).ram) (λ c. ram_alone (host.lent c).ram) (λ c. window_lent host c ≡ w)
         (λ c. RefusesHost host (host.lent c).setting c) w
         (λ c e. subst (λ x. EqualOutside x (host.lent c).ram (host.crossed c).ram) e (call_stays c)) refused_stays cs (ram_alone ram) h;
-    equal-calls = calls_equal;
+    equal_calls = calls_equal;
   }

@@ -20,11 +20,11 @@ module _ (host : Host) where
 
   pub record HostWindows (setting : host.kind.Setting) : Type 0 where
     -- of the calls whose bytes hold a record, and of the records in them
-    pub keeps-to-window : KeepsToWindow (host_machine host setting)
+    pub keeps_to_window : KeepsToWindow (host_machine host setting)
     -- bytes outside the window stay, calls that are refused for their bytes among them
-    pub outside-stays : OutsideStays (λ c. (host.lent c).ram) (λ c. (host.crossed c).ram) window_lent (λ c. RefusesHost host (host.lent c).setting c)
+    pub outside_stays : OutsideStays (λ c. (host.lent c).ram) (λ c. (host.crossed c).ram) window_lent (λ c. RefusesHost host (host.lent c).setting c)
     -- two calls that are lent equal settings, budgets and bytes of a record, or of none, and RAMs that are equal inside the window, give
     -- back equal numbers, bytes of the record and window bytes
-    pub equal-calls : (c d : host.Call) → (host.lent c).setting ≡ (host.lent d).setting → (host.lent c).budget ≡ (host.lent d).budget
+    pub equal_calls : (c d : host.Call) → (host.lent c).setting ≡ (host.lent d).setting → (host.lent c).budget ≡ (host.lent d).budget
         → (host.lent c).bytes ≡ (host.lent d).bytes → EqualInside (window_lent c) (host.lent c).ram (host.lent d).ram
         → EqualCrossed (window_lent c) (host.crossed c) (host.crossed d)

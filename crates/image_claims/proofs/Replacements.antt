@@ -171,14 +171,14 @@ module _ (b : Building) (m : MeetsBuilding b) where
 
   pub replacements : Replacements b
   replacements = record {
-    index-is-fresh = λ first e cs h. all-fresh (b.built first) cs (standing (b.built first)) (m.built first e) h;
-    never-21 = λ first e cs h external window p r ram.
+    index_is_fresh = λ first e cs h. all-fresh (b.built first) cs (standing (b.built first)) (m.built first e) h;
+    never_21 = λ first e cs h external window p r ram.
         right_index (image_after b (b.built first) cs) (all-fresh (b.built first) cs (standing (b.built first)) (m.built first e) h) external window p r ram;
-    page-put = λ c e.
+    page_put = λ c e.
         ap (λ (x : Image). page_at x.bytes (b.number c)) (left_accepted c e) ∙ put (b.handed c) (b.number c) (b.page c) (accepts c e);
     byte_put = λ c e. rw (left_accepted c e) (own_byte (b.handed c) (b.number c) (b.page c) (accepts c e));
-    other-pages = page_stays;
-    other-bytes = byte_stays;
-    same-lengths = lengths_stay;
-    refused-leaves = left_refused;
+    other_pages = page_stays;
+    other_bytes = byte_stays;
+    same_lengths = lengths_stay;
+    refused_leaves = left_refused;
   }

@@ -46,19 +46,19 @@ module _ (b : Building) where
 
   pub record Replacements : Type 0 where
     -- after any replacements, refused ones among them, from an index that was built afresh, the index equals the counts worked out afresh
-    pub index-is-fresh : (first : b.Build) → b.build_told first ≡ accepted → (cs : List (InSeries b.Replace)) → InARow (b.built first) cs
+    pub index_is_fresh : (first : b.Build) → b.build_told first ≡ accepted → (cs : List (InSeries b.Replace)) → InARow (b.built first) cs
         → (image_after (b.built first) cs).index ≡ counts_in (image_after (b.built first) cs)
     -- and so no run with that image is refused by 21
-    pub never-21 : (first : b.Build) → b.build_told first ≡ accepted → (cs : List (InSeries b.Replace)) → InARow (b.built first) cs
+    pub never_21 : (first : b.Build) → b.build_told first ≡ accepted → (cs : List (InSeries b.Replace)) → InARow (b.built first) cs
         → (external : List ℕ) (window : Window) (p : ℕ) (r : Record) (ram : List ℕ)
         → image_decision (image_setting_of (image_after (b.built first) cs) external window) p r ram ≡ refused 21 [] → ⊥
     -- a replacement that isn't refused puts the page at its number, and its count into the byte
-    pub page-put : (c : b.Replace) → b.told c ≡ accepted → page_at (b.left c).bytes (b.number c) ≡ b.page c
+    pub page_put : (c : b.Replace) → b.told c ≡ accepted → page_at (b.left c).bytes (b.number c) ≡ b.page c
     pub byte_put : (c : b.Replace) → b.told c ≡ accepted → byte_of (b.left c) (b.number c) ≡ count_at (b.left c) (b.number c)
     -- every other page and every other byte of the index stay, and the lengths
-    pub other-pages : (c : b.Replace) (q : ℕ) → (q ≡ b.number c → ⊥) → page_at (b.left c).bytes q ≡ page_at (b.handed c).bytes q
-    pub other-bytes : (c : b.Replace) (q : ℕ) → (q ≡ b.number c → ⊥) → byte_of (b.left c) q ≡ byte_of (b.handed c) q
-    pub same-lengths : (c : b.Replace)
+    pub other_pages : (c : b.Replace) (q : ℕ) → (q ≡ b.number c → ⊥) → page_at (b.left c).bytes q ≡ page_at (b.handed c).bytes q
+    pub other_bytes : (c : b.Replace) (q : ℕ) → (q ≡ b.number c → ⊥) → byte_of (b.left c) q ≡ byte_of (b.handed c) q
+    pub same_lengths : (c : b.Replace)
         → (length (b.left c).bytes ≡ length (b.handed c).bytes) × (length (b.left c).index ≡ length (b.handed c).index)
     -- a refused one leaves everything
-    pub refused-leaves : (c : b.Replace) (n : ℕ) (values : List ℕ) → b.told c ≡ refused n values → b.left c ≡ b.handed c
+    pub refused_leaves : (c : b.Replace) (n : ℕ) (values : List ℕ) → b.told c ≡ refused n values → b.left c ≡ b.handed c

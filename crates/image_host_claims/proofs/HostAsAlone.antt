@@ -4,7 +4,7 @@ use Rattle.image_claims.specs.AsAlone.{HandedAlike, NeitherRefused}
 use Rattle.image_claims.proofs.AsAlone.{called_alike}
 use Rattle.hosting.specs.Crossed.{crossing}
 use Rattle.host_series.specs.HostSeries.{RecordCall, handed_record}
-use Rattle.host_series.proofs.HostCalls.{crossed-ran}
+use Rattle.host_series.proofs.HostCalls.{crossed_ran}
 use Rattle.host_claims.specs.HostCalls.{lone_host}
 use Rattle.host_claims.specs.HostCalls as lone
 use Rattle.host_claims.proofs.HostCalls.{meets_host}
@@ -16,6 +16,6 @@ pub image_host_as_alone : (c : RecordCall image_host) (d : RecordCall lone_host)
     → HandedAlike (handed_record image_host c) (handed_record lone_host d) → NeitherRefused (handed_record image_host c) (handed_record lone_host d)
     → crossed_by c.call ≡ lone.crossed_by d.call
 image_host_as_alone c d alike n =
-    crossed-ran image_host meets_image_host c
+    crossed_ran image_host meets_image_host c
     ∙ ap crossing (called_alike (handed_record image_host c) (handed_record lone_host d) alike n)
-    ∙ sym (crossed-ran lone_host meets_host d)
+    ∙ sym (crossed_ran lone_host meets_host d)

@@ -19,7 +19,7 @@ use Rattle.memory.proofs.Alike.{both, alike_map, Related}
 use Rattle.state.specs.Record.{with_place}
 use Rattle.state.specs.declared.Record.{Record}
 use Rattle.access.specs.Outcomes.{Outcome, fails}
-use Rattle.access.proofs.Alike.{BothDone, OutcomesAlike, still, accesses-alike}
+use Rattle.access.proofs.Alike.{BothDone, OutcomesAlike, still, accesses_alike}
 use Rattle.effects.proofs.Alike.{services_alike}
 use Rattle.stop.specs.Stops.{Exit}
 use Rattle.plain.specs.PlainMachine.{Effect, goes_on, exits, faults}
@@ -72,7 +72,7 @@ module _ (w v : Window) (S : List ℕ → List ℕ → Type 0) (h : Related w v 
     unfolding effect_of served
     effects-alike (Data operation) = goes_on_lem (following program.page r.place) _ _ (still w v S h r a b s _)
     effects-alike (Memory access) =
-        goes_on_lem (following program.page r.place) _ _ (accesses-alike w v S h r a b s program.page external access)
+        goes_on_lem (following program.page r.place) _ _ (accesses_alike w v S h r a b s program.page external access)
     effects-alike (Cbz imm6 n) = branches_if _ _ _
     effects-alike (Cbnz imm6 n) = branches_if _ _ _
     effects-alike (Bcc condition imm8) = branches_if _ _ _
@@ -82,6 +82,6 @@ module _ (w v : Window) (S : List ℕ → List ℕ → Type 0) (h : Related w v 
         (services_alike w v S h r a b s (length external) (service_of program.page n))
     effects-alike Unlisted = both (mark refl refl)
 
-    pub instructions-alike : Same (instruction_of (setting_of program external w) r a) (instruction_of (setting_of program external v) r b)
+    pub instructions_alike : Same (instruction_of (setting_of program external w) r a) (instruction_of (setting_of program external v) r b)
     unfolding instruction_of
-    instructions-alike = effects-alike (instruction_at program r.place)
+    instructions_alike = effects-alike (instruction_at program r.place)

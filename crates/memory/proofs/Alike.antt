@@ -92,10 +92,10 @@ module _ (w v : Window) (S : List ℕ → List ℕ → Type 0) (h : Related w v 
       go true false false ei ep eq = outside at bytes ei ep refl (λ t. refl)
 
   module _ (a b : List ℕ) (s : S a b) where
-    pub ram-loads : (at : ℕ) (size : Size) (past : Fault) → eqb (fault_number past) 7 ≡ false
+    pub ram_loads : (at : ℕ) (size : Size) (past : Fault) → eqb (fault_number past) 7 ≡ false
         → LoadsAlike w v (ram_loaded w a at size past) (ram_loaded v b at size past)
     unfolding ram_loaded
-    ram-loads at size past n =
+    ram_loads at size past n =
         alike_map w v attempt.Fails loaded.Fails (BothPass w at bytes) BothLoaded (found a) (found b) (λ e. refl) (λ e. refl)
         (λ x y d. (load_le bytes a at, ap (found a) d.0, ap (found b) d.1 ∙ ap Value (sym (h.reads a b s at bytes d.2))))
         _ _ (accesses at bytes past n)
@@ -106,10 +106,10 @@ module _ (w v : Window) (S : List ℕ → List ℕ → Type 0) (h : Related w v 
         found : List ℕ → Attempt → Loaded
         found ram t = loaded_if t (load_le bytes ram at)
 
-    pub base-loads : (base : Base) (needs_ram : Bool) (external : List ℕ) (imm12 : ℕ) (size : Size)
+    pub base_loads : (base : Base) (needs_ram : Bool) (external : List ℕ) (imm12 : ℕ) (size : Size)
         → LoadsAlike w v (loaded_by base needs_ram w a external imm12 size) (loaded_by base needs_ram v b external imm12 size)
     unfolding loaded_by external_loaded
-    base-loads Nothing needs_ram external imm12 size = fault NoBase refl refl refl
-    base-loads (Ram offset) needs_ram external imm12 size = ram-loads (offset + imm12) size PastRam refl
-    base-loads (External offset) true external imm12 size = fault NoBase refl refl refl
-    base-loads (External offset) false external imm12 size = same_loads w v (leb (offset % 256 + imm12 + width_of size) 256) _ OffExternalPage refl
+    base_loads Nothing needs_ram external imm12 size = fault NoBase refl refl refl
+    base_loads (Ram offset) needs_ram external imm12 size = ram_loads (offset + imm12) size PastRam refl
+    base_loads (External offset) true external imm12 size = fault NoBase refl refl refl
+    base_loads (External offset) false external imm12 size = same_loads w v (leb (offset % 256 + imm12 + width_of size) 256) _ OffExternalPage refl

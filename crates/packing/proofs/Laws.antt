@@ -26,9 +26,9 @@ module _ (stored room : List ℕ) where
       then_room (range_rules (values_of (record_in stored))) form room accepted (sym (loaded_range stored e)) ∙ sym (then_room (load_rules stored) form room accepted (sym e))
 
   module _ (a : ReadBack) (e : seen_read_back a ≡ load_record stored) where
-    pub not-packed : (why : Refusal) → a.verdict ≡ Refused why
+    pub not_packed : (why : Refusal) → a.verdict ≡ Refused why
         → (record { decision = decision_of (Refused why); length = 0 } ≡ pack stored room) × (room ≡ room_after_pack stored room)
-    not-packed why t =
+    not_packed why t =
         let d : decision_of (Refused why) ≡ decision (load_rules stored) = ap decision_of (sym t) ∙ ap (λ (x : LoadAnswer). x.decision) e in
         not_put (load_rules stored) (short_form (record_in stored)) room (refusal_number why) (refusal_values why) d
 

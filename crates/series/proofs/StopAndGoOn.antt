@@ -95,5 +95,5 @@ module _ (m : Machine) (k : KeepsAdmitted m) where
     larger = λ s first longer f other. with_more s first [] longer f other;
     slices = with_sum;
     none_refused = none_refused;
-    slices-larger = with_more;
+    slices_larger = with_more;
   }

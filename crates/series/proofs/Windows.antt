@@ -173,13 +173,13 @@ module _ (kind : Kind) (inside : WithinWindow kind) (Call : Type 0) (handed : Ca
 
   pub keeps_to_window : KeepsToWindow m
   keeps_to_window = record {
-    outside-stays = λ w cs ram h.
+    outside_stays = λ w cs ram h.
         rams_stay (λ c. ram_alone (m.gave c).ram) (λ c. ram_alone (m.handed c).ram) (λ c. window_on m c ≡ w) (λ c. Refuses m (m.handed c)) w
         (window_stays w) refused_ram cs (ram_alone ram) h;
-    series-stays = λ cs s h.
+    series_stays = λ cs s h.
         rams_stay (gave_state m) (handed_state m) (OwnSetting m) (λ c. Refuses m (m.handed c)) (own_window m)
         (λ c e. window_stays (own_window m) c (ap m.kind.window e)) refused_ram cs s h;
-    equal-calls = calls_equal;
-    equal-in-turn = turns_equal;
-    equal-series = series_equal;
+    equal_calls = calls_equal;
+    equal_in_turn = turns_equal;
+    equal_series = series_equal;
   }

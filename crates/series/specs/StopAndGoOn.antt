@@ -46,8 +46,8 @@ module _ (m : Machine) where
     pub slices : (s : State) (first : m.Call) (rest : List m.Call) (whole : m.Call) → Slices s first rest
         → From m s whole → (m.handed whole).budget ≡ budgets first rest → m.gave whole ≡ together first rest
     -- none of them but the first can be refused
-    pub none-refused : (s : State) (first : m.Call) (rest : List m.Call) → Slices s first rest → NoneRefused rest
+    pub none_refused : (s : State) (first : m.Call) (rest : List m.Call) → Slices s first rest → NoneRefused rest
     -- and if the last of them stopped otherwise, they are one run with any larger budget too
-    pub slices-larger : (s : State) (first : m.Call) (rest : List m.Call) (longer : m.Call) → Slices s first rest
+    pub slices_larger : (s : State) (first : m.Call) (rest : List m.Call) (longer : m.Call) → Slices s first rest
         → ((together first rest).stop ≡ budget → ⊥)
         → From m s longer → budgets first rest ≤ (m.handed longer).budget → m.gave longer ≡ together first rest

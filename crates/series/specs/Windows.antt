@@ -69,20 +69,20 @@ module _ (m : Machine) where
   own_calls (other series_record series_ram c ∷ cs) = own_calls cs
 
   pub record KeepsToWindow : Type 0 where
-    pub outside-stays : OutsideStays (λ c. (m.handed c).ram) (λ c. (m.gave c).ram) window_on (λ c. Refuses m (m.handed c))
+    pub outside_stays : OutsideStays (λ c. (m.handed c).ram) (λ c. (m.gave c).ram) window_on (λ c. Refuses m (m.handed c))
     -- in a series too, where the record is handed on with RAM
-    pub series-stays : (cs : List (InSeries m.Call)) (s : State) → Series m cs s
+    pub series_stays : (cs : List (InSeries m.Call)) (s : State) → Series m cs s
         → EqualOutside own_window s.ram (left_by_all (gave_state m) cs s).ram
     -- two calls with equal settings, budgets and records, whose RAMs are equal inside the window, give equal stops, steps, records and
     -- window bytes
-    pub equal-calls : (c d : m.Call) → (m.handed c).setting ≡ (m.handed d).setting → (m.handed c).budget ≡ (m.handed d).budget
+    pub equal_calls : (c d : m.Call) → (m.handed c).setting ≡ (m.handed d).setting → (m.handed c).budget ≡ (m.handed d).budget
         → (m.handed c).rec ≡ (m.handed d).rec → EqualInside (window_on c) (m.handed c).ram (m.handed d).ram
         → EqualBut (EqualInside (window_on c)) (m.gave c) (m.gave d)
     -- and so do calls in turn with others, with equal budgets, one by one: whatever the others wrote outside the window
-    pub equal-in-turn : (cs ds : List m.Call) (s t : State) → InTurn cs s → InTurn ds t → EqualStates s t → budgets_of cs ≡ budgets_of ds
+    pub equal_in_turn : (cs ds : List m.Call) (s t : State) → InTurn cs s → InTurn ds t → EqualStates s t → budgets_of cs ≡ budgets_of ds
         → EqualAll own_window (map m.gave cs) (map m.gave ds) × EqualStates (left_in_turn cs s) (left_in_turn ds t)
     -- and two series whose own calls have equal budgets, however refused calls stand among them
-    pub equal-series : (cs ds : List (InSeries m.Call)) (s t : State) → Series m cs s → Series m ds t → EqualStates s t
+    pub equal_series : (cs ds : List (InSeries m.Call)) (s t : State) → Series m cs s → Series m ds t → EqualStates s t
         → budgets_of (own_calls cs) ≡ budgets_of (own_calls ds)
         → EqualAll own_window (map m.gave (own_calls cs)) (map m.gave (own_calls ds))
         × EqualStates (left_by_all (gave_state m) cs s) (left_by_all (gave_state m) ds t)

@@ -193,12 +193,12 @@ module _ (image : Image) (window : Window) (at : Linkage) (regs ram : List ℕ) 
     met-there : saved.met ≡ frame_access window at.fp
     met-there = ap (λ (s : Saved). s.met) d
 
-    pub return-outside : (f : Fault) → saved.met ≡ Fails f → return image window at regs ram ≡ fails f
+    pub return_outside : (f : Fault) → saved.met ≡ Fails f → return image window at regs ram ≡ fails f
     unfolding return when_done
-    return-outside f e = rw (ne_eqb at.fp 0 n, sym met-there ∙ e)
+    return_outside f e = rw (ne_eqb at.fp 0 n, sym met-there ∙ e)
 
-    pub return-leaves : saved.met ≡ Done → return image window at regs ram ≡ leave image at regs saved.words ram
-    return-leaves e =
+    pub return_leaves : saved.met ≡ Done → return image window at regs ram ≡ leave image at regs saved.words ram
+    return_leaves e =
         let there = sym met-there ∙ e in
         let read : saved.words ≡ load_words 8 ram (offset_of at.fp) = rw there at (ap (λ (s : Saved). s.words) d) in
         return_by n there saved.words (sym read)

@@ -158,12 +158,12 @@ module _ (image : Image) where
         go true e = tt
         go false e = framed (fp_none_or_frame at.fp fit.fp) (eqb-false at.fp 0 e)
 
-    pub transfer-fits : (asks : Asked) (behind : ℕ) → MovesFit (length ram) (transfer image window asks behind at regs ram)
+    pub transfer_fits : (asks : Asked) (behind : ℕ) → MovesFit (length ram) (transfer image window asks behind at regs ram)
     unfolding transfer call tail_call
-    transfer-fits asked.NoTransfer behind = tt
-    transfer-fits (asked.Call w) behind =
+    transfer_fits asked.NoTransfer behind = tt
+    transfer_fits (asked.Call w) behind =
         target_fits (length ram) (call_address w) (enter window (call_address w) (call_words w) behind at regs ram)
         (enter-fits (call_address w) (call_words w) behind)
-    transfer-fits (asked.TailCall w) behind =
+    transfer_fits (asked.TailCall w) behind =
         target_fits (length ram) (call_address w) (replace (call_address w) (call_words w) at regs ram) (replace-fits (call_address w) (call_words w))
-    transfer-fits asked.Return behind = return_fits
+    transfer_fits asked.Return behind = return_fits

@@ -130,9 +130,9 @@ module _ (w v : Window) (S : List ℕ → List ℕ → Type 0) (h : Related w v 
         (done_alike (offset_of at.fp) 32 (frame_access w at.fp) (frame_access v at.fp) _ _ (frames at.fp)
         (λ i. rw (words_read 8 (offset_of at.fp) a b s i) (leave-alike (load_words 8 b (offset_of at.fp)))))
 
-    pub transfers-alike : (asks : Asked) (behind : ℕ) → Same (transfer image w asks behind at regs a) (transfer image v asks behind at regs b)
+    pub transfers_alike : (asks : Asked) (behind : ℕ) → Same (transfer image w asks behind at regs a) (transfer image v asks behind at regs b)
     unfolding transfer call tail_call
-    transfers-alike asked.NoTransfer behind = left_alone
-    transfers-alike (asked.Call word) behind = target-alike (call_address word) _ _ (enter-alike (call_address word) (call_words word) behind)
-    transfers-alike (asked.TailCall word) behind = target-alike (call_address word) _ _ (replace-alike (call_address word) (call_words word))
-    transfers-alike asked.Return behind = return-alike
+    transfers_alike asked.NoTransfer behind = left_alone
+    transfers_alike (asked.Call word) behind = target-alike (call_address word) _ _ (enter-alike (call_address word) (call_words word) behind)
+    transfers_alike (asked.TailCall word) behind = target-alike (call_address word) _ _ (replace-alike (call_address word) (call_words word))
+    transfers_alike asked.Return behind = return-alike

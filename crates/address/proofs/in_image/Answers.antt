@@ -1,12 +1,11 @@
 use mathlib.Core.Path.{sym, ◌∙◌}
-use borrow.Author.Tests.{not-true, not-false}
 use Rattle.address.specs.Addresses.{in_image}
 use Rattle.address.proofs.in_image.Goals as goal
 
 pub returns-then-not-fits : goal.returns-then-not-fits
 unfolding in_image
-returns-then-not-fits c = rw (sym c.fits.ensures ∙ not-true _ c.if-not-fits.true)
+returns-then-not-fits c = rw (sym c.fits.ensures ∙ c.if-not-fits.true)
 
 pub returns : goal.returns
 unfolding in_image
-returns c = rw (sym c.fits.ensures ∙ not-false _ c.if-not-fits.false)
+returns c = rw (sym c.fits.ensures ∙ c.if-not-fits.false)

@@ -48,4 +48,4 @@ pub returns-in-13 : goal.returns-in-13
 returns-in-13 c = rw c.in-13.is
 
 pub returns-in_default : goal.returns-in_default
-returns-in_default c = sym (get_or-eq_default (conditions c.args.f) true (past 14 c.in_default.rest))
+returns-in_default c = sym (get_or-eq_default (conditions c.args.f) true (past 14 c.in_default.in_default-own.rest))

@@ -9,24 +9,19 @@ use mir.Val.{to_z, of_z, Fits}
 use mir.ValLaws.{to_z-of_z}
 use Rattle.bits.specs.Integers.{low_word}
 use Rattle.bits.proofs.Integers.{low_lt, more_fits, low_neg, low_pos}
-use Rattle.bits.proofs.wrapped.Goals.{Start}
 use Rattle.bits.proofs.wrapped.Goals as goal
 
--- what is read back from the bits of z is z
-read : (c : Start) → to_z w64 (of_z w64 c.args.z) ≡ c.args.z
-read c = to_z-of_z w64 c.args.z c.ranges.z
-
 sum : (c : goal.Then-z-lt0) → to_z w64 (of_z w64 c.args.z) +ℤ pos (2 ^ 32) ≡ pos (low_word c.args.z)
-sum c = rw (read c) (low_neg c.args.z c.requires (rw (read c) at c.if-z-lt0.true))
+sum c = rw (to_z-of_z w64 c.args.z c.ranges.z) (low_neg c.args.z c.requires (rw (to_z-of_z w64 c.args.z c.ranges.z) at c.if-z-lt0.true))
 
 whole : (c : goal.Else-z-lt0) → to_z w64 (of_z w64 c.args.z) ≡ pos (low_word c.args.z)
-whole c = read c ∙ low_pos c.args.z c.requires (rw (read c) at c.if-z-lt0.false)
+whole c = to_z-of_z w64 c.args.z c.ranges.z ∙ low_pos c.args.z c.requires (rw (to_z-of_z w64 c.args.z c.ranges.z) at c.if-z-lt0.false)
 
 abbrev Word : ℤ → Type 0
 Word z = T (non_neg z) × Fits w32 (nat_abs z)
 
 pub overflow_add-result : goal.overflow_add-result
-overflow_add-result c = rw (read c) (more_fits c.args.z _ c.requires (lit< tt))
+overflow_add-result c = rw (to_z-of_z w64 c.args.z c.ranges.z) (more_fits c.args.z _ c.requires (lit< tt))
 
 sum-read : (c : goal.Then-z-lt0) → to_z w64 (of_z w64 (to_z w64 (of_z w64 c.args.z) +ℤ pos (2 ^ 32))) ≡ pos (low_word c.args.z)
 sum-read c = to_z-of_z w64 _ (overflow_add-result c) ∙ sum c

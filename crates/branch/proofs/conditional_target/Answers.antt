@@ -9,12 +9,8 @@ use Rattle.branch.proofs.Laws.{offset_read}
 use borrow.Author.Rules.{rules}
 use Rattle.branch.proofs.conditional_target.Goals as goal
 
--- what target_from is handed
-offset : (c : goal.After-sign_extended) → to_z w64 (of_z w64 c.sign_extended.result) ≡ SInt 8 c.args.imm8
-offset c = offset_read 8 c.args.imm8 c.args.imm8 c.sign_extended.result c.sign_extended.type_inv c.sign_extended.ensures (omega arith)
-
 pub target_from-requires : goal.target_from-requires
-target_from-requires c = rw (offset c) (omega (arith, sint_mag 8 c.args.imm8 (omega arith)))
+target_from-requires c = rw (offset_read 8 c.args.imm8 c.args.imm8 c.sign_extended.result c.sign_extended.type_inv c.sign_extended.ensures (omega arith)) (omega (arith, sint_mag 8 c.args.imm8 (omega arith)))
 
 pub returns : goal.returns
-returns c = c.target_from.ensures ∙ ap (target_of c.args.place) (offset c)
+returns c = c.target_from.ensures ∙ ap (target_of c.args.place) (offset_read 8 c.args.imm8 c.args.imm8 c.sign_extended.result c.sign_extended.type_inv c.sign_extended.ensures (omega arith))

@@ -86,7 +86,7 @@ pub returns-in-MovReg : goal.returns-in-MovReg
 returns-in-MovReg c = rw (c.in-MovReg.is, c.moved.ensures, c.at-in-MovReg.ensures)
 
 pub returns-in-AddSp : goal.returns-in-AddSp
-returns-in-AddSp c = rw (c.in-AddSp.is, c.moved-in-AddSp.ensures, c.wrapping_add_u32.ensures)
+returns-in-AddSp c = rw (c.in-AddSp.is, c.moved-in-AddSp.ensures, c.wrapping_add_u32.ensures.value)
 
 pub returns-in-Sxth : goal.returns-in-Sxth
 returns-in-Sxth c = rw (c.in-Sxth.is, c.moved-in-Sxth.ensures, c.sxth.ensures, c.at-in-Sxth.ensures)

@@ -17,4 +17,4 @@ pub returns-in-2 : goal.returns-in-2
 returns-in-2 c = rw c.in-2.is
 
 pub returns-in_default : goal.returns-in_default
-returns-in_default c = let o = c.args.offset in sym (get_or-eq_default (eqb o 0 ∷ ltb o (2 ^ 20) ∷ ltb o (2 ^ 24) ∷ []) false (past 3 c.in_default.rest))
+returns-in_default c = let o = c.args.offset in sym (get_or-eq_default (eqb o 0 ∷ ltb o (2 ^ 20) ∷ ltb o (2 ^ 24) ∷ []) false (past 3 c.in_default.in_default-own.rest))

@@ -9,7 +9,7 @@ use Rattle.frame.proofs.Words.{store_start, store_next, store_end, part_done, wo
 use Rattle.frame.proofs.write_words.Goals as goal
 
 pub loop-i-init : goal.loop-i-init
-loop-i-init c = (omega arith, store_start c.args.ram.now c.args.t4 c.args.at, refl)
+loop-i-init c = (omega arith, store_start c.args.ram.now c.args.words c.args.at, refl)
 
 pub offset_bounds-words-i : goal.offset_bounds-words-i
 offset_bounds-words-i c = omega arith
@@ -37,7 +37,7 @@ loop-i-preserved c =
     rw c.word_offset.ensures at c.ram_store.ensures.1
     ∙ word_stored c.args.window (c.args.at + 4 * l.i) _ inside l.ram _ in (
       omega arith,
-      rw stored (store_next l.ram c.args.t4 c.args.at l.i (omega arith)) ∙ l.invariant.1,
+      rw stored (store_next l.ram c.args.words c.args.at l.i (omega arith)) ∙ l.invariant.1,
       ap length stored ∙ length_store 4 l.ram _ _ ∙ l.invariant.2,
     )
 
@@ -47,4 +47,4 @@ shape_of-ram c = c.loop-i.invariant.2
 pub returns : goal.returns
 returns c =
     let l = c.loop-i in
-    store_end l.ram c.args.t4 _ l.i (omega arith) ∙ l.invariant.1
+    store_end l.ram c.args.words _ l.i (omega arith) ∙ l.invariant.1

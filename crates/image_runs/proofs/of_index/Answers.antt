@@ -1,9 +1,8 @@
 use mathlib.Core.Path.{sym, ◌∙◌}
-use borrow.Author.Tests.{not-true, not-false}
 use Rattle.image_runs.proofs.of_index.Goals as goal
 
 pub returns-then-not-holds_counts : goal.returns-then-not-holds_counts
-returns-then-not-holds_counts c = rw (sym c.holds_counts.ensures ∙ not-true _ c.if-not-holds_counts.true)
+returns-then-not-holds_counts c = rw (sym c.holds_counts.ensures ∙ c.if-not-holds_counts.true)
 
 pub returns : goal.returns
-returns c = rw (sym c.holds_counts.ensures ∙ not-false _ c.if-not-holds_counts.false)
+returns c = rw (sym c.holds_counts.ensures ∙ c.if-not-holds_counts.false)

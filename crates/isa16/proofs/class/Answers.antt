@@ -7,6 +7,7 @@ use Rattle.isa.specs.Patterns.{matches}
 use Rattle.isa16.specs.Classes.{class_of}
 use Rattle.isa16.proofs.Classes.{in_run, no_line}
 use Rattle.isa16.proofs.class.Goals as goal
+use Rattle.isa16.proofs.class.Goals.{in_default-via-then-t-lt32+then-t-lt24, in_default-via-else-t-lt32+then-t-lt64, in_default-via-else-t-lt32+else-t-lt64+else-t-lt68+then-t-lt216, in_default-via-else-t-lt32+else-t-lt64+else-t-lt68+else-t-lt216+else-t-lt222}
 
 -- the keys of the two matches, the last arm first, without those that are runs
 abbrev singles : List (List ℕ)
@@ -122,12 +123,8 @@ returns-in_default-five c =
     let rest = c.in_default-1.rest in
     let five = c.field-five.ensures in
     elim c.in_default.branch [
-      | inl a ↦ no_line singles fives 0x00 0x18 refl t (omega arith) (omega arith) rest five c.in_default-five.rest
-      | inr a ↦ elim a [
-        | inl b ↦ no_line singles fives 0x20 0x20 refl t (omega arith) (omega arith) rest five c.in_default-five.rest
-        | inr b ↦ elim b [
-          | inl d ↦ no_line singles fives 0x44 0x94 refl t (omega arith) (omega arith) rest five c.in_default-five.rest
-          | inr d ↦ no_line singles fives 0xDE 0x22 refl t (omega arith) (omega arith) rest five c.in_default-five.rest
-        ]
-      ]
+      | in_default-via-then-t-lt32+then-t-lt24 w ↦ no_line singles fives 0x00 0x18 refl t (omega arith) (omega arith) rest five c.in_default-five.in_default-five-own.rest
+      | in_default-via-else-t-lt32+then-t-lt64 w ↦ no_line singles fives 0x20 0x20 refl t (omega arith) (omega arith) rest five c.in_default-five.in_default-five-own.rest
+      | in_default-via-else-t-lt32+else-t-lt64+else-t-lt68+then-t-lt216 w ↦ no_line singles fives 0x44 0x94 refl t (omega arith) (omega arith) rest five c.in_default-five.in_default-five-own.rest
+      | in_default-via-else-t-lt32+else-t-lt64+else-t-lt68+else-t-lt216+else-t-lt222 w ↦ no_line singles fives 0xDE 0x22 refl t (omega arith) (omega arith) rest five c.in_default-five.in_default-five-own.rest
     ]

@@ -22,5 +22,5 @@ returns-in-2 c = rw c.read_operands-f.ensures (by_ten 34 0x2CA refl c.args.h (om
 pub returns-in_default : goal.returns-in_default
 unfolding matches
 returns-in_default c =
-    let last : 3 ≤ c.field-op.result = past 3 c.in_default.rest in
+    let last : 3 ≤ c.field-op.result = past 3 c.in_default.in_default-own.rest in
     rw c.read_operands-f.ensures (by_ten 35 0x2CB refl c.args.h (omega arith))

@@ -92,4 +92,4 @@ pub returns-in-22 : goal.returns-in-22
 returns-in-22 c = rw c.read_operands-f.ensures (by_class 22 (λ h. B (bits h 10 0)) (refl, refl, tt) (lit< tt) c.args.h (sym c.in-22.is ∙ c.requires))
 
 pub returns-in_default : goal.returns-in_default
-returns-in_default c = no_class c.args.h c.args.k c.requires (past 24 c.in_default.rest)
+returns-in_default c = no_class c.args.h c.args.k c.requires (past 24 c.in_default.in_default-own.rest)

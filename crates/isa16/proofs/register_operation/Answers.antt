@@ -70,5 +70,5 @@ returns-in-14 c = rw c.read_operands-f.ensures (by_ten 25 270 refl c.args.h (ome
 pub returns-in_default : goal.returns-in_default
 unfolding matches
 returns-in_default c =
-    let last : 15 ≤ c.field-op.result = past 15 c.in_default.rest in
+    let last : 15 ≤ c.field-op.result = past 15 c.in_default.in_default-own.rest in
     rw c.read_operands-f.ensures (by_ten 26 271 refl c.args.h (omega arith))

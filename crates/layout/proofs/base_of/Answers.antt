@@ -10,4 +10,4 @@ pub returns-in-1 : goal.returns-in-1
 returns-in-1 c = rw c.in-1.is
 
 pub returns-in_default : goal.returns-in_default
-returns-in_default c = sym (get_or-eq_default (Nothing ∷ Ram c.args.offset ∷ []) (External c.args.offset) (past 2 c.in_default.rest))
+returns-in_default c = sym (get_or-eq_default (Nothing ∷ Ram c.args.offset ∷ []) (External c.args.offset) (past 2 c.in_default.in_default-own.rest))

@@ -10,4 +10,4 @@ pub returns-in-0 : goal.returns-in-0
 returns-in-0 c = rw c.in-0.is
 
 pub returns-in_default : goal.returns-in_default
-returns-in_default c = sym (get_or-eq_default (eqb c.args.offset 0 ∷ []) true (past 1 c.in_default.rest))
+returns-in_default c = sym (get_or-eq_default (eqb c.args.offset 0 ∷ []) true (past 1 c.in_default.in_default-own.rest))

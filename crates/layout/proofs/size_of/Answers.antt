@@ -29,4 +29,4 @@ pub returns-in-9 : goal.returns-in-9
 returns-in-9 c = ⊎_elim (λ (e : c.args.i ≡ 9). rw e) (λ (e : c.args.i ≡ 12). rw e) c.in-9.is
 
 pub returns-in_default : goal.returns-in_default
-returns-in_default c = four c.args.i c.requires c.in_default.rest
+returns-in_default c = four c.args.i c.requires c.in_default.in_default-own.rest

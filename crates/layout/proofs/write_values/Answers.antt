@@ -41,7 +41,7 @@ loop-i-preserved c =
       omega arith,
       rw c.width.ensures (next stored_form l.i l.at (width_of size.result) (omega arith) l.invariant.1 size.ensures),
       rw (c.width.ensures, stored.ensures)
-          (written_lem stored_form l.i l.at (width_of size.result) (omega arith) l.invariant.1 size.ensures c.args.t1 l.room (omega arith) (omega arith) l.invariant.2),
+          (written_lem stored_form l.i l.at (width_of size.result) (omega arith) l.invariant.1 size.ensures c.args.values l.room (omega arith) (omega arith) l.invariant.2),
       ap length stored.ensures ∙ length_store (width_of size.result) l.room l.at _ ∙ l.invariant.3,
     )
 
@@ -51,4 +51,4 @@ shape_of-room c = c.loop-i.invariant.3
 pub returns : goal.returns
 returns c =
     let l = c.loop-i in
-    all_written stored_form c.args.t1 l.room l.i l.at (omega arith) l.invariant.1 (omega arith) l.invariant.2
+    all_written stored_form c.args.values l.room l.i l.at (omega arith) l.invariant.1 (omega arith) l.invariant.2

@@ -1,14 +1,13 @@
 use mathlib.Core.Path.{sym, ◌∙◌}
-use borrow.Author.Tests.{not-true, not-false}
 use Rattle.platform.proofs.of_program.Goals as goal
 
 pub returns-then-not-known : goal.returns-then-not-known
-returns-then-not-known c = rw (sym c.is_known-known.ensures ∙ not-true _ c.if-not-known.true)
+returns-then-not-known c = rw (sym c.is_known-known.ensures ∙ c.if-not-known.true)
 
 pub returns-then-not-fits : goal.returns-then-not-fits
 returns-then-not-fits c =
-    rw (sym c.is_known-known.ensures ∙ not-false _ c.if-not-known.false, sym c.fits-fits.ensures ∙ not-true _ c.if-not-fits.true)
+    rw (sym c.is_known-known.ensures ∙ c.if-not-known.false, sym c.fits-fits.ensures ∙ c.if-not-fits.true)
 
 pub returns : goal.returns
 returns c =
-    rw (sym c.is_known-known.ensures ∙ not-false _ c.if-not-known.false, sym c.fits-fits.ensures ∙ not-false _ c.if-not-fits.false)
+    rw (sym c.is_known-known.ensures ∙ c.if-not-known.false, sym c.fits-fits.ensures ∙ c.if-not-fits.false)

@@ -16,7 +16,7 @@ loop-i-init c = (unchanged_lem _ _ (omega arith), omega arith)
 pub loop-i-preserved : goal.loop-i-preserved
 loop-i-preserved c =
     let loop = c.loop-i in
-    let regs = c.args.t3 in
+    let regs = c.args.regs in
     let h : loop.i < length regs = search rules in
     let text = loop.invariant.0 then c.push-end.ensures then c.put_hex-end.ensures in
     (rw (word_more regs loop.i h) text, omega arith)
@@ -24,7 +24,7 @@ loop-i-preserved c =
 pub returns : goal.returns
 unfolding regs_text
 returns c =
-    let regs = c.args.t3 in
+    let regs = c.args.regs in
     let h : length regs ≤ c.loop-i.i = search rules in
     let words = rw (take_all c.loop-i.i regs h) at c.loop-i.invariant.0 in
     c.put-end.ensures then words then c.push.ensures

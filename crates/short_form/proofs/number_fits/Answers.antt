@@ -28,6 +28,6 @@ returns-in-12 c = let n = c.args.n in rw c.in-12.is (implied (ltb n (256 ^ 1)) (
 pub returns-in_default : goal.returns-in_default
 returns-in_default c =
     let i = c.args.i in
-    let others = c.in_default.rest in
+    let others = c.in_default.in_default-own.rest in
     let low : i < 8 = omega (arith, c.requires, others.1, others.0.1, others.0.0.1, others.0.0.0.1, others.0.0.0.0.1) in
     rw (register_lem i low) (implies (ltb c.args.n (2 ^ 32)) true (λ t. refl))

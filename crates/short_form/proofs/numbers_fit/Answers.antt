@@ -3,7 +3,6 @@ use mathlib.Core.Path.{◌≡◌, refl, sym, ◌∙◌}
 use native.Mathlib.Numerals.{add-one}
 use native.Mathlib.Omega.{arith}
 use borrow.Author.Rules.{rules}
-use borrow.Author.Tests.{not-true, not-false}
 use lib.ListN.{get_or, take, drop}
 use Rattle.refusal.specs.Refusals.{decision}
 use Rattle.layout.specs.StoredForm.{stored_form, length_of, field_rules}
@@ -18,8 +17,8 @@ loop-i-init c = (omega arith, refl, refl)
 pub returns-then-not-number_fits : goal.returns-then-not-number_fits
 returns-then-not-number_fits c =
     let l = c.loop-i in
-    let numbers = c.args.t1 in
-    let fails = sym c.number_fits.ensures ∙ not-true _ c.if-not-number_fits.true in
+    let numbers = c.args.numbers in
+    let fails = sym c.number_fits.ensures ∙ c.if-not-number_fits.true in
     sym (rw fails at (next_rule number_fits 7 (get_or numbers 9 0) stored_form numbers l.at l.i (omega arith) (omega arith))) ∙ l.invariant.2
 
 pub overflow_add-at : goal.overflow_add-at
@@ -30,8 +29,8 @@ overflow_add-at c =
 pub loop-i-preserved : goal.loop-i-preserved
 loop-i-preserved c =
     let l = c.loop-i in
-    let numbers = c.args.t1 in
-    let holds = sym c.number_fits.ensures ∙ not-false _ c.if-not-number_fits.false in (
+    let numbers = c.args.numbers in
+    let holds = sym c.number_fits.ensures ∙ c.if-not-number_fits.false in (
       omega arith,
       next stored_form l.i l.at c.width_of-at.result (omega arith) l.invariant.1 c.width_of-at.ensures,
       rw (add-one, c.width_of-at.ensures) (sym (rw holds at (next_rule number_fits 7 (get_or numbers 9 0) stored_form numbers l.at l.i (omega arith) (omega arith))) ∙ l.invariant.2),

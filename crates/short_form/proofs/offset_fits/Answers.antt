@@ -22,5 +22,5 @@ returns-in-2 c = let n = c.args.n in rw c.in-2.is (implied _ (ltb n (2 ^ 24)) (�
 pub returns-in_default : goal.returns-in_default
 returns-in_default c =
     let n = c.args.n in
-    rw (get_or-eq_default (eqb n 0 ∷ ltb n (2 ^ 20) ∷ ltb n (2 ^ 24) ∷ []) false (past 3 c.in_default.rest))
+    rw (get_or-eq_default (eqb n 0 ∷ ltb n (2 ^ 20) ∷ ltb n (2 ^ 24) ∷ []) false (past 3 c.in_default.in_default-own.rest))
     (implied (ltb n (256 ^ 4)) false (λ t. absurd {0} (true≢false (sym t))))

@@ -18,7 +18,7 @@ loop-i-init c = (unchanged_lem _ 0 (omega arith), omega arith)
 pub loop-i-preserved : goal.loop-i-preserved
 loop-i-preserved c =
     let l = c.loop-i in (
-      rw (field_more l.i c.args.t2 (omega arith) (omega arith)) (l.invariant.0 then c.put_field-at.ensures),
+      rw (field_more l.i c.args.numbers (omega arith) (omega arith)) (l.invariant.0 then c.put_field-at.ensures),
       omega arith,
     )
 

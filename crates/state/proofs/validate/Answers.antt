@@ -1,10 +1,9 @@
 use mathlib.Core.Path.{sym, ◌∙◌}
-use borrow.Author.Tests.{not-true, not-false}
 use borrow.Author.Rules.{rules}
 use Rattle.state.proofs.validate.Goals as goal
 
 pub returns-then-not-external_fits : goal.returns-then-not-external_fits
-returns-then-not-external_fits c = rw (sym c.external_fits.ensures ∙ not-true _ c.if-not-external_fits.true)
+returns-then-not-external_fits c = rw (sym c.external_fits.ensures ∙ c.if-not-external_fits.true)
 
 pub returns : goal.returns
-returns c = rw (sym c.external_fits.ensures ∙ not-false _ c.if-not-external_fits.false, c.base_of.ensures)
+returns c = rw (sym c.external_fits.ensures ∙ c.if-not-external_fits.false, c.base_of.ensures)

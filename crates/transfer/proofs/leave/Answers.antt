@@ -14,11 +14,11 @@ returns-in-Fails c ram =
 
 pub returns-in-Moves : goal.returns-in-Moves
 returns-in-Moves c ram =
-    let eight : length c.args.t5 ≡ 8 = search rules in
-    let words : length c.args.t6 ≡ 8 = search rules in
+    let eight : length c.args.regs ≡ 8 = search rules in
+    let words : length c.args.words ≡ 8 = search rules in
     (moving _ _ ram _ _ _ _ _
     (met_moves _ _ _ _ (leave_met _ _ _ _ ram _ _ c.place_met-place.ensures c.frame_met-chain.ensures) c.first_met-met.ensures c.in-Moves.is)
-    (rw (c.linked.ensures, restoring c.args.t5 c.args.t6 eight words) at c.answer.ensures)).0
+    (rw (c.linked.ensures, restoring c.args.regs c.args.words eight words) at c.answer.ensures)).0
 
 pub returns-in-Stays : goal.returns-in-Stays
 returns-in-Stays c ram =

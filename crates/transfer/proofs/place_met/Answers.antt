@@ -1,9 +1,8 @@
 use mathlib.Core.Path.{sym, ◌∙◌}
-use borrow.Author.Tests.{not-true, not-false}
 use Rattle.transfer.proofs.place_met.Goals as goal
 
 pub returns-then-not-is_fit_address : goal.returns-then-not-is_fit_address
-returns-then-not-is_fit_address c = rw (sym c.is_fit_address.ensures ∙ not-true _ c.if-not-is_fit_address.true)
+returns-then-not-is_fit_address c = rw (sym c.is_fit_address.ensures ∙ c.if-not-is_fit_address.true)
 
 pub returns : goal.returns
-returns c = rw (sym c.is_fit_address.ensures ∙ not-false _ c.if-not-is_fit_address.false)
+returns c = rw (sym c.is_fit_address.ensures ∙ c.if-not-is_fit_address.false)

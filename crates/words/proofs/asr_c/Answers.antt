@@ -14,20 +14,17 @@ use Rattle.words.proofs.asr_c.Goals as goal
 pub returns-then-n-eq0 : goal.returns-then-n-eq0
 returns-then-n-eq0 c = rw c.if-n-eq0.true
 
--- the integer that is shifted_lem is the word's
-handed : (c : goal.After-sign_extended-z) → to_z w64 (of_z w64 c.sign_extended-z.result) ≡ SInt 32 c.args.x
-handed c =
-    let e = c.sign_extended-z in
-    word c.args.x e.result (omega arith) e.type_inv e.ensures
-
 pub returns : goal.returns
 returns c =
     let n = c.args.n in
     let z = (in_range c.args.x (omega arith)).0 in
     let k = c.at_most_32-m.ensures in
-    let value = shifted_lem n 32 c.shifted_right.type_inv c.shifted_right.ensures (handed c) z k (omega arith) in
+    -- the integer that is shifted is the word's
+    let handed : to_z w64 (of_z w64 c.sign_extended-z.result) ≡ SInt 32 c.args.x =
+    word c.args.x c.sign_extended-z.result (omega arith) c.sign_extended-z.type_inv c.sign_extended-z.ensures in
+    let value = shifted_lem n 32 c.shifted_right.type_inv c.shifted_right.ensures handed z k (omega arith) in
     let e = c.shifted_right-2 in
-    let carry = shifted_lem (n - 1) 31 e.type_inv e.ensures (handed c) z (one_less n k) (omega arith) in
+    let carry = shifted_lem (n - 1) 31 e.type_inv e.ensures handed z (one_less n k) (omega arith) in
     rw (ne_eqb _ _ c.if-n-eq0.false)
     (λ i. record {
       value = (c.low_word.ensures ∙ ap low_word value) i;

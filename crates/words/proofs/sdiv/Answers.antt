@@ -13,25 +13,23 @@ pub returns-then-y-eq0 : goal.returns-then-y-eq0
 returns-then-y-eq0 c = rw c.if-y-eq0.true
 
 -- the integers that quotient is handed are the words'
-left : (c : goal.After-sign_extended-b) → to_z w64 (of_z w64 c.sign_extended-a.result) ≡ SInt 32 c.args.x
-left c =
-    let e = c.sign_extended-a in
-    word c.args.x e.result (omega arith) e.type_inv e.ensures
-
-right : (c : goal.After-sign_extended-b) → to_z w64 (of_z w64 c.sign_extended-b.result) ≡ SInt 32 c.args.y
-right c =
-    let e = c.sign_extended-b in
-    word c.args.y e.result (omega arith) e.type_inv e.ensures
-
 pub quotient-requires : goal.quotient-requires
 quotient-requires c =
+    let left : to_z w64 (of_z w64 c.sign_extended-a.result) ≡ SInt 32 c.args.x =
+    word c.args.x c.sign_extended-a.result (omega arith) c.sign_extended-a.type_inv c.sign_extended-a.ensures in
+    let right : to_z w64 (of_z w64 c.sign_extended-b.result) ≡ SInt 32 c.args.y =
+    word c.args.y c.sign_extended-b.result (omega arith) c.sign_extended-b.type_inv c.sign_extended-b.ensures in
     let a = c.args in
     let x = in_range a.x (omega arith) in
     let y = in_range a.y (omega arith) in
-    rw (left c, right c) (y.1 c.if-y-eq0.false, x.0, y.0)
+    rw (left, right) (y.1 c.if-y-eq0.false, x.0, y.0)
 
 pub returns : goal.returns
 returns c =
     let q = c.quotient in
+    let left : to_z w64 (of_z w64 c.sign_extended-a.result) ≡ SInt 32 c.args.x =
+    word c.args.x c.sign_extended-a.result (omega arith) c.sign_extended-a.type_inv c.sign_extended-a.ensures in
+    let right : to_z w64 (of_z w64 c.sign_extended-b.result) ≡ SInt 32 c.args.y =
+    word c.args.y c.sign_extended-b.result (omega arith) c.sign_extended-b.type_inv c.sign_extended-b.ensures in
     rw (ne_eqb _ _ c.if-y-eq0.false)
-    (c.low_word.ensures ∙ ap low_word (read q.result q.type_inv ∙ (rw (left c, right c) at q.ensures)))
+    (c.low_word.ensures ∙ ap low_word (read q.result q.type_inv ∙ (rw (left, right) at q.ensures)))
