@@ -1,3 +1,4 @@
+use borrow.Enum.Refused.{opened}
 use types.Run.{OneOf}
 use denote.Enum.Declared.{tag_of}
 use mathlib.Core.Bool.{false}
@@ -34,7 +35,7 @@ no_number NotShortest k = refl
 pub returns-in_default : goal.returns-in_default
 returns-in_default c =
     let l = c.loop-i in
-    let e = not_read _ l.numbers l.at l.i (omega arith) l.invariant.3 _ (no_number c.field_in-found.result c.in_default.keys2) c.field_in-found.ensures in
+    let e = not_read _ l.numbers l.at l.i (omega arith) l.invariant.3 _ (no_number c.field_in-found.result (opened c.in_default.in_default-own.keys2)) c.field_in-found.ensures in
     c.not_grouped.ensures ∙ ap held_by e
 
 -- no more than there is
