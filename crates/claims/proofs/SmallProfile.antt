@@ -121,7 +121,12 @@ number a = a.count
 smaller_count : (small full : CountCall) → count_page small ≡ count_page full
     → (set : ℕ) → count_platform small ≡ platform_of set 1 → count_platform full ≡ platform_of set 0
     → (seen_count small.answer).count ≤ (seen_count full.answer).count
-smaller_count s f p set e d = rw (ap number s.contract, ap number f.contract, p, e, d) (at_most (count_page f) set)
+smaller_count s f p set e d =
+    let less : (seen_count s.answer).count ≡ (count_program (program_of (count_page f) (platform_of set 1))).count =
+    ap number s.contract ∙ (λ i. (count_program (program_of (p i) (e i))).count) in
+    let more : (seen_count f.answer).count ≡ (count_program (program_of (count_page f) (platform_of set 0))).count =
+    ap number f.contract ∙ (λ i. (count_program (program_of (count_page f) (d i))).count) in
+    omega (arith, less, more, at_most (count_page f) set)
 
 pub small_profile : SmallProfile
 unfolding greatest_closed all_within successors_of flow_of bundle_at service_of by_low_byte literal_service halfword_at word_at page_fits opens32 decode_by rows_in matches instruction_of instruction_at stands_in effect_of run_decision

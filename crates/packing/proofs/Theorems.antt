@@ -38,7 +38,9 @@ module _ (stored : List ℕ) (h : (k : ℕ) → get_or stored k 0 < 256) (t : de
 
   -- its short form is accepted, and holds the same record
   pub short_reads : (decision (read_rules (short_form (record_in stored))) ≡ accepted) × (record_short (short_form (record_in stored)) ≡ record_in stored)
-  short_reads = rw short_is (Short.values_kept values fits in_range)
+  short_reads =
+      let kept = Short.values_kept values fits in_range in
+      (ap (λ (form : List ℕ). decision (read_rules form)) short_is ∙ kept.0, ap (λ (form : List ℕ). record_short form) short_is ∙ kept.1)
 
   pub short_length : (12 ≤ length (short_form (record_in stored))) × (length (short_form (record_in stored)) ≤ 49)
   short_length = rw short_is (Short.lengths values fits in_range)

@@ -13,7 +13,7 @@ use Rattle.layout.specs.StoredForm.{range_rules, values_of}
 use Rattle.text.specs.Text.{Puts}
 use Rattle.short_layout.specs.declared.InGroups.{InGroups}
 use Rattle.short_layout.specs.ShortForm.{short_form, Numbers, grouped, not_grouped, numbers_in, held_by}
-use Rattle.short_form.specs.ShortStoring.{room_rule, write_decision, PackAnswer, pack_answer, room_packed, groups_rule, number_rules, record_read, read_record}
+use Rattle.short_form.specs.ShortStoring.{room_rule, write_decision, PackAnswer, pack_answer, room_packed, is_grouped, numbers_of, groups_rule, number_rules, record_read, read_record}
 
 -- ---- writing
 
@@ -67,12 +67,14 @@ written_lem r room form after_lem a e f given = rw (then_room (range_rules (valu
 
 -- ---- reading
 
-by_groups : (bytes : List ℕ) (ns : Numbers) → numbers_in bytes ≡ ns
-    → record_read (decision (groups_rule (held_by ns).grouped ∷ number_rules (held_by ns).numbers)) (held_by ns).numbers ≡ read_record bytes
-by_groups bytes (grouped numbers) e = rw e
-by_groups bytes not_grouped e = rw e
+by_groups : (ns : Numbers)
+    → record_read (decision (groups_rule (held_by ns).grouped ∷ number_rules (held_by ns).numbers)) (held_by ns).numbers
+    ≡ record_read (decision (groups_rule (is_grouped ns) ∷ number_rules (numbers_of ns))) (numbers_of ns)
+by_groups (grouped numbers) = refl
+by_groups not_grouped = refl
 
 -- as the code holds the numbers
 pub by_held : (bytes : List ℕ) (a : InGroups) → a ≡ held_by (numbers_in bytes)
     → record_read (decision (groups_rule a.grouped ∷ number_rules a.numbers)) a.numbers ≡ read_record bytes
-by_held bytes a e = rw e (by_groups bytes (numbers_in bytes) refl)
+by_held bytes a e =
+    ap (λ (x : InGroups). record_read (decision (groups_rule x.grouped ∷ number_rules x.numbers)) x.numbers) e ∙ by_groups (numbers_in bytes)

@@ -38,7 +38,10 @@ module _ (values : List ℕ) (fits : ValuesFit stored_form values) (t : InRange 
   pub values_kept : (decision (read_rules (short_bytes (numbers_for values))) ≡ accepted) × (record_short (short_bytes (numbers_for values)) ≡ record_of values)
   values_kept =
       let sp = sp_value values l t in
-      rw numbers_held (numbers_accepted values l t fit, ap record_of (Numbers.values_back values l sp.1 sp.2))
+      (
+        ap (λ (ns : Numbers). decision (groups_rule (is_grouped ns) ∷ number_rules (numbers_of ns))) numbers_held ∙ numbers_accepted values l t fit,
+        ap (λ (ns : Numbers). record_of (values_for (numbers_of ns))) numbers_held ∙ ap record_of (Numbers.values_back values l sp.1 sp.2),
+      )
 
   -- in 12 to 49 bytes
   pub lengths : (12 ≤ length (short_bytes (numbers_for values))) × (length (short_bytes (numbers_for values)) ≤ 49)
