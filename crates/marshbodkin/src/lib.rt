@@ -345,7 +345,7 @@ pub fn mb_raw_exit(
     address: &mut u32,
     words: &mut u32,
 )
-    ensures { record { kind = kind.exit.now; number = number.new; immediate = immediate.new; address = address.new; words = words.new }
+    ensures { record { kind = kind.new; number = number.new; immediate = immediate.new; address = address.new; words = words.new }
         ≡ decoded_exit low literal }
 {
     let exit = crossing::decoded_exit(low, literal);
