@@ -1,5 +1,5 @@
 #!/usr/bin/env bash
-# The header's calls from C, and the example, over the archive that `rt staticlib marshbodkin` has made. The header is C99 and
+# The header's calls from C, and the example, over the archive that tools/build has made. The header is C99 and
 # C++11 without a warning (tests/warnings), by gcc and, where it is installed, clang.
 set -euo pipefail
 cd "$(dirname "$0")/.."

@@ -1,5 +1,5 @@
 #!/usr/bin/env bash
-# What include/marshbodkin.h guarantees of the archive that `rt staticlib marshbodkin` has made.
+# What include/marshbodkin.h guarantees of the archive that tools/build has made.
 set -euo pipefail
 cd "$(dirname "$0")/.."
 archive=target/staticlib/libmarshbodkin.a

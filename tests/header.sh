@@ -4,7 +4,7 @@
 # and a wrong width are each found, in the header and in the Rust declarations.
 set -eu
 root=$(dirname "$0")/..
-source=$root/crates/marshbodkin/src/lib.rt
+source=$root/crates/marshbodkin_c/src/lib.rt
 header=$root/include/marshbodkin.h
 declarations=$root/rust/sys/src/lib.rs
 scratch=$(mktemp -d)
@@ -80,7 +80,7 @@ found() {
     fi
 }
 
-as_c '#[no_mangle] pub extern "C" fn mb_raw_' "$source" >"$scratch/exported"
+as_c '#[unsafe(no_mangle)] pub extern "C" fn mb_raw_' "$source" >"$scratch/exported"
 if [ ! -s "$scratch/exported" ]; then
     echo "header.sh: no exported function in $source" >&2
     exit 1

@@ -45,6 +45,6 @@ ln -s "$(type -P true)" bin/rt
 mkdir -p copy/lib/libmarshbodkin.a # a folder stands where the archive goes
 fails 1 '^install: lib/libmarshbodkin.a could not be put in ' copy
 ln -sf "$(type -P false)" bin/rt
-fails 1 '^install: rt staticlib marshbodkin failed' unbuilt
+fails 1 '^build: rt lib in crates/marshbodkin_c failed' unbuilt
 find unbuilt -type f | diff /dev/null -
 echo "tools/install: installed, used through pkg-config; its failures are told"

@@ -1,6 +1,6 @@
 // How many 16-bit halfwords and 32-bit pairs are listed, by brute force from the text of the build paper's section
 // "Listed encodings", and how many of them in the small profile of change request 12. It shares nothing with the rows in
-// crates/isa: the theorems number16, number32, small-number16 and small-number32 there must give the same numbers.
+// crates/isa: the theorems number16, number32, small_number16 and small_number32 there must give the same numbers.
 
 fn opens32(h: u32) -> bool {
     matches!(h >> 11, 0b11101 | 0b11110 | 0b11111)

@@ -1,5 +1,5 @@
 //! Links the proved library, `libmarshbodkin.a`: from the directory in
-//! `MARSHBODKIN_LIB`, an absolute path, or from where `rt staticlib marshbodkin` puts it.
+//! `MARSHBODKIN_LIB`, an absolute path, or from where `tools/build` puts it.
 
 use std::env;
 
@@ -16,7 +16,7 @@ fn main() {
     println!("cargo:rerun-if-changed={}", archive.display());
     if !archive.is_file() {
         panic!(
-            "{} isn't there: run `rt staticlib marshbodkin` first, or name its directory in MARSHBODKIN_LIB",
+            "{} isn't there: run `tools/build` first, or name its directory in MARSHBODKIN_LIB",
             archive.display()
         );
     }

@@ -1,6 +1,6 @@
-// The calls that a host links, in C's way: one that can be refused answers 0 or a refusal's number, and the rest is given in lent
-// numbers and bytes. A record crosses as its 44 bytes, fit or not. Bit n of `never_return` says that direct syscall n never returns;
-// `profile` is 0, full, or 1, small; any other is refused. A window of RAM is its start and its end.
+// The calls that a host links, which marshbodkin_c exports, in C's way: one that can be refused answers 0 or a refusal's number, and
+// the rest is given in lent numbers and bytes. A record crosses as its 44 bytes, fit or not. Bit n of `never_return` says that direct
+// syscall n never returns; `profile` is 0, full, or 1, small; any other is refused. A window of RAM is its start and its end.
 #![tactic(auto)]
 
 ghost use Rattle.std.specs.Prelude.{◌≡◌, length};
@@ -30,8 +30,7 @@ use window::Window;
 // ---- pages and bases
 
 // The count of a program.
-#[unsafe(no_mangle)]
-pub extern "C" fn mb_raw_count(page: &[u8], never_return: u64, profile: u32, count: &mut u32) -> u32
+pub fn mb_raw_count(page: &[u8], never_return: u64, profile: u32, count: &mut u32) -> u32
     ensures { (result ≡ code_of (count_program (program_of page.now (platform_of never_return profile))).decision) × (count.new ≡ (count_program (program_of page.now (platform_of never_return profile))).count) }
 {
     let platform = Platform {
@@ -45,8 +44,7 @@ pub extern "C" fn mb_raw_count(page: &[u8], never_return: u64, profile: u32, cou
 }
 
 // Bundle k of a program: 0 bad, 1 no successor, 2 the largest successor.
-#[unsafe(no_mangle)]
-pub extern "C" fn mb_raw_read_bundle(
+pub fn mb_raw_read_bundle(
     page: &[u8],
     never_return: u64,
     profile: u32,
@@ -71,8 +69,7 @@ pub extern "C" fn mb_raw_read_bundle(
 }
 
 // The base of an address: 0 none, 1 RAM, 2 external, and the offset.
-#[unsafe(no_mangle)]
-pub extern "C" fn mb_raw_validate(v: u32, external: &[u8], kind: &mut u32, offset: &mut u32) -> u32
+pub fn mb_raw_validate(v: u32, external: &[u8], kind: &mut u32, offset: &mut u32) -> u32
     ensures { (result ≡ code_of (validate_base v (length external.now)).decision)
         × (kind.new ≡ (validate_base v (length external.now)).kind)
         × (offset.new ≡ (validate_base v (length external.now)).offset) }
@@ -88,8 +85,7 @@ pub extern "C" fn mb_raw_validate(v: u32, external: &[u8], kind: &mut u32, offse
 // ---- records
 
 // The fresh record.
-#[unsafe(no_mangle)]
-pub extern "C" fn mb_raw_fresh(bytes: &mut [u8]) -> u32
+pub fn mb_raw_fresh(bytes: &mut [u8]) -> u32
     ensures { (result ≡ code_of (fresh_decision bytes.old)) × (bytes.new ≡ room_with fresh_record bytes.old) }
 {
     if layout::write(state::fresh_record(), bytes) {
@@ -100,8 +96,7 @@ pub extern "C" fn mb_raw_fresh(bytes: &mut [u8]) -> u32
 }
 
 // Stores a record.
-#[unsafe(no_mangle)]
-pub extern "C" fn mb_raw_store(bytes: &[u8], room: &mut [u8], position: &mut u32) -> u32
+pub fn mb_raw_store(bytes: &[u8], room: &mut [u8], position: &mut u32) -> u32
     ensures { (result ≡ code_of (form_decision bytes.now room.old))
         × (position.new ≡ position_of (form_decision bytes.now room.old))
         × (room.new ≡ form_room bytes.now room.old) }
@@ -112,8 +107,7 @@ pub extern "C" fn mb_raw_store(bytes: &[u8], room: &mut [u8], position: &mut u32
 }
 
 // Reads a record back.
-#[unsafe(no_mangle)]
-pub extern "C" fn mb_raw_load(stored: &[u8], bytes: &mut [u8], position: &mut u32) -> u32
+pub fn mb_raw_load(stored: &[u8], bytes: &mut [u8], position: &mut u32) -> u32
     ensures { (result ≡ code_of (form_decision stored.now bytes.old))
         × (position.new ≡ position_of (form_decision stored.now bytes.old))
         × (bytes.new ≡ form_room stored.now bytes.old) }
@@ -126,13 +120,7 @@ pub extern "C" fn mb_raw_load(stored: &[u8], bytes: &mut [u8], position: &mut u3
 // ---- the short form
 
 // The short form of a stored record goes to the start of the room.
-#[unsafe(no_mangle)]
-pub extern "C" fn mb_raw_pack(
-    stored: &[u8],
-    room: &mut [u8],
-    length: &mut usize,
-    position: &mut u32,
-) -> u32
+pub fn mb_raw_pack(stored: &[u8], room: &mut [u8], length: &mut usize, position: &mut u32) -> u32
     ensures { (result ≡ code_of (pack_decision stored.now room.old))
         × (length.new ≡ (pack stored.now room.old).length)
         × (position.new ≡ position_of (pack_decision stored.now room.old))
@@ -146,8 +134,7 @@ pub extern "C" fn mb_raw_pack(
 }
 
 // The stored form of a record in the short one goes to the room.
-#[unsafe(no_mangle)]
-pub extern "C" fn mb_raw_unpack(packed: &[u8], room: &mut [u8], position: &mut u32) -> u32
+pub fn mb_raw_unpack(packed: &[u8], room: &mut [u8], position: &mut u32) -> u32
     ensures { (result ≡ code_of (unpack_decision packed.now room.old))
         × (position.new ≡ position_of (unpack_decision packed.now room.old))
         × (room.new ≡ room_after_unpack packed.now room.old) }
@@ -160,8 +147,7 @@ pub extern "C" fn mb_raw_unpack(packed: &[u8], room: &mut [u8], position: &mut u
 // ---- steps and runs
 
 // A run with a budget. The stop is a kind with a value, a literal and a position.
-#[unsafe(no_mangle)]
-pub extern "C" fn mb_raw_run(
+pub fn mb_raw_run(
     page: &[u8],
     never_return: u64,
     profile: u32,
@@ -195,8 +181,7 @@ pub extern "C" fn mb_raw_run(
 }
 
 // A step is a run with budget 1.
-#[unsafe(no_mangle)]
-pub extern "C" fn mb_raw_step(
+pub fn mb_raw_step(
     page: &[u8],
     never_return: u64,
     profile: u32,
@@ -235,13 +220,7 @@ pub extern "C" fn mb_raw_step(
 // ---- images
 
 // Builds the index of an image.
-#[unsafe(no_mangle)]
-pub extern "C" fn mb_raw_image_build(
-    image: &[u8],
-    index: &mut [u8],
-    never_return: u64,
-    profile: u32,
-) -> u32
+pub fn mb_raw_image_build(image: &[u8], index: &mut [u8], never_return: u64, profile: u32) -> u32
     ensures { (result ≡ code_of (build_decision (image_of image.now index.old (platform_of never_return profile))))
         × (index.new ≡ index_built (image_of image.now index.old (platform_of never_return profile))) }
 {
@@ -254,8 +233,7 @@ pub extern "C" fn mb_raw_image_build(
 }
 
 // Replaces a page of an image, and its byte of the index.
-#[unsafe(no_mangle)]
-pub extern "C" fn mb_raw_image_replace(
+pub fn mb_raw_image_replace(
     image: &mut [u8],
     index: &mut [u8],
     never_return: u64,
@@ -276,8 +254,7 @@ pub extern "C" fn mb_raw_image_replace(
 }
 
 // A run in a page of an image.
-#[unsafe(no_mangle)]
-pub extern "C" fn mb_raw_image_run(
+pub fn mb_raw_image_run(
     image: &[u8],
     index: &[u8],
     never_return: u64,
@@ -315,8 +292,7 @@ pub extern "C" fn mb_raw_image_run(
 }
 
 // A step is a run with budget 1.
-#[unsafe(no_mangle)]
-pub extern "C" fn mb_raw_image_step(
+pub fn mb_raw_image_step(
     image: &[u8],
     index: &[u8],
     never_return: u64,
@@ -360,8 +336,7 @@ pub extern "C" fn mb_raw_image_step(
 // ---- what a stop asks
 
 // The exit of a low byte with its literal: what a stop at a service asks of the host.
-#[unsafe(no_mangle)]
-pub extern "C" fn mb_raw_exit(
+pub fn mb_raw_exit(
     low: u32,
     literal: u32,
     kind: &mut u32,
@@ -370,7 +345,7 @@ pub extern "C" fn mb_raw_exit(
     address: &mut u32,
     words: &mut u32,
 )
-    ensures { record { kind = kind.exit.now; number = number.new; immediate = immediate.new; address = address.new; words = words.new }
+    ensures { record { kind = kind.new; number = number.new; immediate = immediate.new; address = address.new; words = words.new }
         ≡ decoded_exit low literal }
 {
     let exit = crossing::decoded_exit(low, literal);
@@ -389,8 +364,7 @@ const MINOR: u32 = 8;
 
 const PATCH: u32 = 0;
 
-#[unsafe(no_mangle)]
-pub extern "C" fn mb_raw_version() -> u32
+pub fn mb_raw_version() -> u32
     ensures { result ≡ library_version }
 {
     65536 * MAJOR + 256 * MINOR + PATCH

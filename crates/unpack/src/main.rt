@@ -3,14 +3,20 @@
 
 use streams::Input;
 
-fn main() {
+fn main(rt: HostRuntime) {
     let program = b"unpack";
     // One byte more than thirteen numbers of five groups have, so that a longer input is refused.
     let mut input = [0u8; 66];
-    let Input::Bytes(n) = streams::read_input(program, &mut input) else {
+    let Input::Bytes(n) = streams::read_input(
+        &mut rt.stdin(),
+        &mut rt.stderr(),
+        program,
+        &mut input,
+    ) else {
         return;
     };
     let mut room = [0u8; 64];
     let written = conversion::unpack(text::first(&input, n), &mut room);
-    streams::write_output(program, text::first(&room, text::bytes_written(written)));
+    let text = text::first(&room, text::bytes_written(written));
+    streams::write_output(&mut rt.stdout(), &mut rt.stderr(), program, text);
 }

@@ -1,5 +1,4 @@
-use Rattle.std.proofs.Common.{◌≡◌, ◌-◌, ◌≤◌, length, refl, ap, ◌∙◌, arith, rules}
-use Rattle.endian.proofs.Theorems.{length_store}
+use Rattle.std.proofs.Common.{◌≡◌, ◌-◌, ◌≤◌, length}
 use Rattle.steps.proofs.assemble.Given as goal
 
 abbrev pub invariant-loop-k : goal.invariant-loop-k

@@ -1,4 +1,4 @@
-use Rattle.std.proofs.Common.{◌+◌, ◌-◌, ◌≤◌, length, arith, rules}
+use Rattle.std.proofs.Common.{◌+◌, ◌-◌, ◌≤◌, length}
 use Rattle.steps.proofs.run_lines.Given as goal
 
 abbrev pub invariant-loop-start : goal.invariant-loop-start
