@@ -1,11 +1,10 @@
 -- Faults and their numbers.
 use Rattle.std.specs.Prelude.{ℕ}
 use Rattle.memory.specs.declared.Fault.{Fault}
-use Rattle.memory.specs.declared.Fault.TheVariants.{NoBase, PastRam, OffExternalPage, PastStack, LowStack, PastPage, OutsideWindow, UnfitPlace, LowFrame, UnfitFrame}
+use Rattle.memory.specs.declared.Fault.TheVariants.{NoBase, PastRam, OffExternalPage, PastStack, LowStack, PastPage, OutsideWindow}
 
 -- 1 no base, or external base where RAM is needed; 2 past RAM; 3 off the external page; 4 stack access past 0x18000;
--- 5 SP below 0x10000; 6 literal load past the page; 7 an access to RAM that isn't wholly inside the window; 8 called or returned-to
--- place not fit; 9 frame or SP move of a call below 0x10000; 10 a saved FP that fails the frame test
+-- 5 SP below 0x10000; 6 literal load past the page; 7 an access to RAM that isn't wholly inside the window
 abbrev pub fault_number : Fault → ℕ
 fault_number NoBase = 1
 fault_number PastRam = 2
@@ -14,6 +13,3 @@ fault_number PastStack = 4
 fault_number LowStack = 5
 fault_number PastPage = 6
 fault_number OutsideWindow = 7
-fault_number UnfitPlace = 8
-fault_number LowFrame = 9
-fault_number UnfitFrame = 10

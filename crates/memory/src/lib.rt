@@ -11,7 +11,7 @@ use endian::Size;
 use state::Base;
 use window::Window;
 
-// The papers' faults, in the order of their numbers, 1 to 10.
+// The papers' faults, in the order of their numbers, 1 to 7.
 #[derive(Clone, Copy)]
 pub enum Fault {
     NoBase,
@@ -21,9 +21,6 @@ pub enum Fault {
     LowStack,
     PastPage,
     OutsideWindow,
-    UnfitPlace,
-    LowFrame,
-    UnfitFrame,
 }
 
 #[derive(Clone, Copy)]
@@ -51,9 +48,6 @@ pub fn fault_number(f: Fault) -> u8
         Fault::LowStack => 5,
         Fault::PastPage => 6,
         Fault::OutsideWindow => 7,
-        Fault::UnfitPlace => 8,
-        Fault::LowFrame => 9,
-        Fault::UnfitFrame => 10,
     }
 }
 

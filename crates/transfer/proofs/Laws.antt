@@ -13,7 +13,6 @@ use Rattle.image.specs.Images.{Image}
 use Rattle.window.specs.declared.Window.{Window}
 use Rattle.memory.specs.Memory.{after_if}
 use Rattle.memory.specs.declared.Fault.{Fault}
-use Rattle.memory.specs.declared.Fault.TheVariants.{LowFrame, UnfitPlace, UnfitFrame}
 use Rattle.memory.specs.declared.Attempt.{Attempt}
 use Rattle.memory.specs.declared.Attempt.TheVariants.{Done, Fails}
 use Rattle.state.specs.FitRecord.{fp_fits}
@@ -25,6 +24,8 @@ use Rattle.transfer.specs.declared.Linkage.{Linkage}
 use Rattle.transfer.specs.declared.Transferred.{Transferred}
 use Rattle.asking.specs.declared.Asked.{Asked}
 use Rattle.asking.specs.declared.Asked.TheVariants as asked
+use Rattle.transfer.specs.declared.TransferFault.{TransferFault}
+use Rattle.transfer.specs.declared.TransferFault.TheVariants.{Memory, UnfitPlace, LowFrame, UnfitFrame}
 use Rattle.transfer.specs.declared.Met.{Met}
 use Rattle.transfer.specs.declared.Met.TheVariants as met
 
@@ -56,7 +57,7 @@ module _ (at : Linkage) (regs ram : List ℕ) (t : Transfer) (x : Transferred) w
   unfolding transferred ram_left
   left_alone e g = rw e (g, refl)
 
-  pub failing : (f : Fault) → t ≡ fails f → x ≡ given (met.Fails f) at regs → Transfers at regs ram t x ram
+  pub failing : (f : TransferFault) → t ≡ fails f → x ≡ given (met.Fails f) at regs → Transfers at regs ram t x ram
   unfolding transferred ram_left
   failing f e g = rw e (g, refl)
 
@@ -87,7 +88,7 @@ module _ (t next : Transfer) (m n : Met) (e : t ≡ met_then n next) (k : m ≡ 
   pub met_stays : m ≡ met.Stays → t ≡ stays
   met_stays = so met.Stays
 
-  pub met_fails : (f : Fault) → m ≡ met.Fails f → t ≡ fails f
+  pub met_fails : (f : TransferFault) → m ≡ met.Fails f → t ≡ fails f
   met_fails f = so (met.Fails f)
 
 pub first_moves : (a b : Met) → first_met a b ≡ met.Moves → (a ≡ met.Moves) × (b ≡ met.Moves)
@@ -141,7 +142,7 @@ call_met image window w behind address n at regs ram a b e f x y =
     (push window address n behind at regs ram))
 
 module _ (window : Window) (address n behind : ℕ) (at : Linkage) (regs ram : List ℕ) (a : Attempt) (d : a ≡ frame_access window (at.sp - 32)) where
-  pub frame_outside : (f : Fault) → a ≡ Fails f → push window address n behind at regs ram ≡ fails f
+  pub frame_outside : (f : Fault) → a ≡ Fails f → push window address n behind at regs ram ≡ fails (Memory f)
   unfolding push when_done
   frame_outside f e = rw (sym d ∙ e)
 
@@ -193,7 +194,7 @@ module _ (image : Image) (window : Window) (at : Linkage) (regs ram : List ℕ) 
     met-there : saved.met ≡ frame_access window at.fp
     met-there = ap (λ (s : Saved). s.met) d
 
-    pub return_outside : (f : Fault) → saved.met ≡ Fails f → return image window at regs ram ≡ fails f
+    pub return_outside : (f : Fault) → saved.met ≡ Fails f → return image window at regs ram ≡ fails (Memory f)
     unfolding return when_done
     return_outside f e = rw (ne_eqb at.fp 0 n, sym met-there ∙ e)
 

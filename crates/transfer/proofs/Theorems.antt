@@ -12,8 +12,6 @@ use Rattle.laws.proofs.Tests.{second}
 use Rattle.literal.specs.Literals.{call_address, call_words}
 use Rattle.image.specs.Images.{Image}
 use Rattle.window.specs.declared.Window.{Window}
-use Rattle.memory.specs.Faults.{fault_number}
-use Rattle.memory.specs.declared.Fault.TheVariants.{UnfitPlace, LowFrame, UnfitFrame}
 use Rattle.memory.specs.declared.Attempt.{Attempt}
 use Rattle.memory.specs.declared.Attempt.TheVariants.{Done, Fails}
 use Rattle.state.specs.FitRecord.{sp_fits, fp_fits}
@@ -25,8 +23,10 @@ use Rattle.address.specs.Addresses.{address_of, page_of, place_of, in_image, fit
 use Rattle.address.proofs.Theorems.{fit_address_lem}
 use Rattle.asking.specs.declared.Asked.{Asked}
 use Rattle.asking.specs.declared.Asked.TheVariants as asked
+use Rattle.transfer.specs.Faults.{transfer_fault_number}
 use Rattle.transfer.specs.Transfers.{Transfer, moves, stays, fails, when_done, to_target, push, enter, call, top_of, replace, tail_call, leave, return, transfer}
 use Rattle.transfer.specs.declared.Linkage.{Linkage}
+use Rattle.transfer.specs.declared.TransferFault.TheVariants.{UnfitPlace, LowFrame, UnfitFrame}
 
 -- SP and FP as a fit record's
 pub record FitStack (at : Linkage) : Type 0 where
@@ -37,7 +37,7 @@ module _ (image : Image) where
   abbrev pub MovesFit : ℕ → Transfer → Type 0
   MovesFit bytes (moves to regs ram) = FitStack to × (fit_in image to.page to.place ≡ true) × (length ram ≡ bytes)
   MovesFit bytes stays = Unit {0}
-  MovesFit bytes (fails fault) = (7 ≤ fault_number fault) × (fault_number fault ≤ 10)
+  MovesFit bytes (fails fault) = (7 ≤ transfer_fault_number fault) × (transfer_fault_number fault ≤ 10)
 
   -- ---- a target
 

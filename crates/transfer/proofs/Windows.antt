@@ -12,7 +12,7 @@ use Rattle.image.specs.Images.{Image}
 use Rattle.window.specs.Windows.{inside_window}
 use Rattle.window.specs.declared.Window.{Window}
 use Rattle.memory.specs.Memory.{ram_access}
-use Rattle.memory.specs.declared.Fault.TheVariants.{PastStack, LowStack, UnfitPlace, LowFrame, UnfitFrame}
+use Rattle.memory.specs.declared.Fault.TheVariants.{PastStack, LowStack}
 use Rattle.memory.specs.declared.Attempt.{Attempt}
 use Rattle.memory.specs.declared.Attempt.TheVariants as attempt
 use Rattle.memory.proofs.Alike.{Alike, both, fault, outside, Related, BothPass, accesses}
@@ -22,16 +22,21 @@ use Rattle.frame.proofs.Words.{part_inside}
 use Rattle.address.specs.Addresses.{address_of, page_of, place_of, in_image, fit_in, fit_address}
 use Rattle.asking.specs.declared.Asked.{Asked}
 use Rattle.asking.specs.declared.Asked.TheVariants as asked
+use Rattle.transfer.specs.Faults.{transfer_fault_number}
 use Rattle.transfer.specs.Transfers.{Transfer, moves, stays, fails, when_done, to_target, push, enter, call, top_of, replace, tail_call, leave, return, transfer}
 use Rattle.transfer.specs.declared.Linkage.{Linkage}
+use Rattle.transfer.specs.declared.TransferFault.{TransferFault}
+use Rattle.transfer.specs.declared.TransferFault.TheVariants.{Memory, UnfitPlace, LowFrame, UnfitFrame}
 
 -- the same, but for the RAMs
 pub data BothTransfers (S : List ℕ → List ℕ → Type 0) (x y : Transfer) : Type 0 where
   both_move : (to : Linkage) (regs a b : List ℕ) → x ≡ moves to regs a → y ≡ moves to regs b → S a b → BothTransfers S x y
   both_stay : x ≡ stays → y ≡ stays → BothTransfers S x y
+  -- a fault that is no window's
+  both_fail : (f : TransferFault) → eqb (transfer_fault_number f) 7 ≡ false → x ≡ fails f → y ≡ fails f → BothTransfers S x y
 
 abbrev pub TransfersAlike : Window → Window → (List ℕ → List ℕ → Type 0) → Transfer → Transfer → Type 0
-TransfersAlike w v S = Alike w v fails (BothTransfers S)
+TransfersAlike w v S = Alike w v (λ f. fails (Memory f)) (BothTransfers S)
 
 module _ (w v : Window) (S : List ℕ → List ℕ → Type 0) (h : Related w v S) where
   abbrev Same : Transfer → Transfer → Type 0
@@ -89,7 +94,7 @@ module _ (w v : Window) (S : List ℕ → List ℕ → Type 0) (h : Related w v 
     unfolding to_target
     target-alike address x y p =
         either_way (in_image image (page_of address)) _ _ _ _
-        (either_way (fit_in image (page_of address) (place_of address)) _ _ _ _ p (fault UnfitPlace refl refl refl)) left_alone
+        (either_way (fit_in image (page_of address) (place_of address)) _ _ _ _ p (both (both_fail UnfitPlace refl refl refl))) left_alone
 
     push-alike : (address n behind : ℕ) → Same (push w address n behind at regs a) (push v address n behind at regs b)
     unfolding push
@@ -109,19 +114,19 @@ module _ (w v : Window) (S : List ℕ → List ℕ → Type 0) (h : Related w v 
     enter-alike : (address n behind : ℕ) → Same (enter w address n behind at regs a) (enter v address n behind at regs b)
     unfolding enter
     enter-alike address n behind =
-        either_way (ltb (at.sp - 32) 0x10000 || ltb (at.sp - 32 - 4 * n) 0x10000) _ _ _ _ (fault LowFrame refl refl refl) (push-alike address n behind)
+        either_way (ltb (at.sp - 32) 0x10000 || ltb (at.sp - 32 - 4 * n) 0x10000) _ _ _ _ (both (both_fail LowFrame refl refl refl)) (push-alike address n behind)
 
     replace-alike : (address n : ℕ) → Same (replace address n at regs a) (replace address n at regs b)
     unfolding replace
     replace-alike address n =
-        either_way (ltb (top_of at.fp - 4 * n) 0x10000) _ _ _ _ (fault LowFrame refl refl refl) (both (both_move _ regs a b refl refl s))
+        either_way (ltb (top_of at.fp - 4 * n) 0x10000) _ _ _ _ (both (both_fail LowFrame refl refl refl)) (both (both_move _ regs a b refl refl s))
 
     leave-alike : (words : List ℕ) → Same (leave image at regs words a) (leave image at regs words b)
     unfolding leave
     leave-alike words =
         either_way (fit_address image (saved_pc words)) _ _ _ _
-        (either_way (fp_fits (saved_fp words)) _ _ _ _ (both (both_move _ (restored regs words) a b refl refl s)) (fault UnfitFrame refl refl refl))
-        (fault UnfitPlace refl refl refl)
+        (either_way (fp_fits (saved_fp words)) _ _ _ _ (both (both_move _ (restored regs words) a b refl refl s)) (both (both_fail UnfitFrame refl refl refl)))
+        (both (both_fail UnfitPlace refl refl refl))
 
     return-alike : Same (return image w at regs a) (return image v at regs b)
     unfolding return

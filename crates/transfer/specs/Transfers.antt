@@ -4,8 +4,6 @@ use Rattle.std.specs.Prelude.{ℕ, ◌+◌, ◌-◌, ◌*◌, ◌||◌, cond, Li
 use Rattle.literal.specs.Literals.{call_address, call_words}
 use Rattle.image.specs.Images.{Image}
 use Rattle.window.specs.declared.Window.{Window}
-use Rattle.memory.specs.declared.Fault.{Fault}
-use Rattle.memory.specs.declared.Fault.TheVariants.{UnfitPlace, LowFrame, UnfitFrame}
 use Rattle.memory.specs.declared.Attempt.{Attempt}
 use Rattle.memory.specs.declared.Attempt.TheVariants.{Done}
 use Rattle.memory.specs.declared.Attempt.TheVariants as attempt
@@ -15,6 +13,8 @@ use Rattle.address.specs.Addresses.{address_of, page_of, place_of, in_image, fit
 use Rattle.transfer.specs.declared.Linkage.{Linkage}
 use Rattle.asking.specs.declared.Asked.{Asked}
 use Rattle.asking.specs.declared.Asked.TheVariants as asked
+use Rattle.transfer.specs.declared.TransferFault.{TransferFault}
+use Rattle.transfer.specs.declared.TransferFault.TheVariants.{Memory, UnfitPlace, LowFrame, UnfitFrame}
 use Rattle.transfer.specs.declared.Met.{Met}
 use Rattle.transfer.specs.declared.Met.TheVariants as met
 use Rattle.transfer.specs.declared.Transferred.{Transferred}
@@ -24,12 +24,12 @@ use Rattle.transfer.specs.declared.Transferred.{Transferred}
 pub data Transfer : Type 0 where
   moves : Linkage → List ℕ → List ℕ → Transfer
   stays : Transfer
-  fails : Fault → Transfer
+  fails : TransferFault → Transfer
 
 -- a frame that may be read or written
 unfoldable pub when_done : Attempt → Transfer → Transfer
 when_done Done next = next
-when_done (attempt.Fails fault) next = fails fault
+when_done (attempt.Fails fault) next = fails (Memory fault)
 
 -- a target whose page isn't in the image leaves the call an exit; one that isn't fit is fault 8. Its place is even, so that it is fit if its
 -- bundle lies below its page's byte

@@ -5,6 +5,7 @@ ghost use Rattle.std.specs.Prelude.{◌+◌, ◌-◌, ◌*◌, ◌^◌, ◌<◌,
 ghost use Rattle.literal.specs.Literals.{call_address, call_words};
 ghost use Rattle.image.specs.Images.{image_of};
 ghost use Rattle.address.specs.Addresses.{page_of, place_of};
+ghost use Rattle.transfer.specs.Faults.{transfer_fault_number};
 ghost use Rattle.transfer.specs.Transfers.{push, call, top_of, tail_call, leave, return, transfer, first_met, target_met, low_met, place_met, frame_met, transferred, Transfers, TransfersAny};
 
 use asking::Asked;
@@ -21,13 +22,25 @@ pub struct Linkage {
     pub place: u16,
 }
 
+// Why a transfer fails: by the fault that the access to its frame meets, or by one that no access meets, 8 to 10.
+#[derive(Clone, Copy)]
+pub enum TransferFault {
+    Memory(Fault),
+    // the place called or returned to is not fit
+    UnfitPlace,
+    // the frame or SP of a call would lie below the stack
+    LowFrame,
+    // a saved FP fails the frame test
+    UnfitFrame,
+}
+
 // How it ends.
 #[derive(Clone, Copy)]
 pub enum Met {
     Moves,
     // nothing moves between pages: the instruction is its page's
     Stays,
-    Fails(Fault),
+    Fails(TransferFault),
 }
 
 // What a transfer comes to. Where nothing moves, linkage and registers are the given ones.
@@ -36,6 +49,18 @@ pub struct Transferred {
     pub met: Met,
     pub linkage: Linkage,
     pub regs: [u32; 8],
+}
+
+// The papers' number of a fault.
+pub fn transfer_fault_number(fault: TransferFault) -> u8
+    ensures { result ≡ transfer_fault_number fault }
+{
+    match fault {
+        TransferFault::Memory(met) => memory::fault_number(met),
+        TransferFault::UnfitPlace => 8,
+        TransferFault::LowFrame => 9,
+        TransferFault::UnfitFrame => 10,
+    }
 }
 
 // ---- the word of a call
@@ -76,7 +101,7 @@ fn target_met(image: &[u8], index: &[u8], platform: Platform, address: u32) -> M
         return Met::Stays;
     }
     if !address::is_fit(image, index, platform, p, place) {
-        return Met::Fails(Fault::UnfitPlace);
+        return Met::Fails(TransferFault::UnfitPlace);
     }
     Met::Moves
 }
@@ -87,7 +112,7 @@ fn low_met(top: u32, bytes: u32) -> Met
     ensures { result ≡ low_met (top - bytes) }
 {
     if top < 0x1_0000 + bytes {
-        return Met::Fails(Fault::LowFrame);
+        return Met::Fails(TransferFault::LowFrame);
     }
     Met::Moves
 }
@@ -97,7 +122,7 @@ fn place_met(image: &[u8], index: &[u8], platform: Platform, pc: u32) -> Met
     ensures { result ≡ place_met (image_of image.now index.now platform) pc }
 {
     if !address::is_fit_address(image, index, platform, pc) {
-        return Met::Fails(Fault::UnfitPlace);
+        return Met::Fails(TransferFault::UnfitPlace);
     }
     Met::Moves
 }
@@ -107,7 +132,7 @@ fn frame_met(fp: u32) -> Met
     ensures { result ≡ frame_met fp }
 {
     if !state::fp_fits(fp) {
-        return Met::Fails(Fault::UnfitFrame);
+        return Met::Fails(TransferFault::UnfitFrame);
     }
     Met::Moves
 }
@@ -156,7 +181,7 @@ fn push(
     words[1] = at.fp;
     let met = frame::write(window, ram, frame, words);
     match met {
-        Attempt::Fails(fault) => answer(Met::Fails(fault), at, regs),
+        Attempt::Fails(fault) => answer(Met::Fails(TransferFault::Memory(fault)), at, regs),
         Attempt::Done => answer(Met::Moves, linked(frame - 4 * n, frame, address), regs),
     }
 }
@@ -265,7 +290,7 @@ fn return_from(
     let met = saved.met;
     let words = saved.words;
     match met {
-        Attempt::Fails(fault) => answer(Met::Fails(fault), at, regs),
+        Attempt::Fails(fault) => answer(Met::Fails(TransferFault::Memory(fault)), at, regs),
         Attempt::Done => leave(image, index, platform, at, regs, words),
     }
 }
