@@ -18,7 +18,6 @@ use Rattle.literal.specs.declared.Service.{Service}
 use Rattle.literal.specs.declared.Service.TheVariants.{Return, Call, TailCall, Syscall, TailSyscall, LongBranch, Preload, SetBase, StoreAtSp, LoadAtSp, LowerSp, DirectSyscall, Validate, Breakpoint, CallRegister, TailCallRegister, Bad}
 use Rattle.window.specs.declared.Window.{Window}
 use Rattle.memory.specs.Memory.{stored_by, after_store_by, signed_loaded}
-use Rattle.memory.specs.Faults.{fault_number}
 use Rattle.memory.proofs.Ram.{base_keeps}
 use Rattle.memory.specs.declared.Fault.TheVariants.{LowStack}
 use Rattle.memory.specs.declared.Loaded.{Loaded}
@@ -39,8 +38,6 @@ use Rattle.access.specs.Outcomes.{Outcome, does, fails, load_to, store_with}
 use Rattle.access.specs.LoadsAndStores.{stack_loaded, stack_stored, after_stack_store, store_at, literal_loaded, store_base, loaded_base, accessed}
 use Rattle.access.proofs.Theorems.{stack_keeps}
 use Rattle.effects.specs.ServiceEffects.{leaves_none, lower_sp, set_base, service_does}
-use Rattle.instruction.specs.Fitness.{Known}
-use Rattle.instruction.proofs.KnownFaults.{MeetsKnown, LoadsKnown, stack_load_known, stack_store_known, literal_known, base_load_known, base_store_known, signed_known}
 
 -- ---- what is written
 
@@ -79,26 +76,26 @@ lower_fits w words external l f =
 
 -- ---- outcomes
 
--- what is done leaves a fit record, since nothing else of it is tested, and RAM of its size; a fault is one of the lone page's
+-- what is done leaves a fit record, since nothing else of it is tested, and RAM of its size
 abbrev pub Leaves : ℕ → Outcome → Type 0
 Leaves external (does w ram) = FitWrites external w × (length ram ≡ 32768)
-Leaves external (fails fault) = Known (fault_number fault)
+Leaves external (fails fault) = Unit {0}
 
 none_after : (external : ℕ) (o : Outcome) → Leaves external o → Leaves external (leaves_none o)
 unfolding leaves_none
 none_after external (does w ram) h = (base_fits_lem w Nothing external refl h.0, h.1)
-none_after external (fails fault) h = h
+none_after external (fails fault) h = tt
 
 module _ (external : ℕ) (r : Record) (window : Window) (ram : List ℕ) (f : FitWrites external (writes_nothing r)) (e : length ram ≡ 32768) where
-  load_leaves : (t : ℕ) (l : Loaded) → LoadsKnown l → Leaves external (load_to r ram t l)
+  load_leaves : (t : ℕ) (l : Loaded) → Leaves external (load_to r ram t l)
   unfolding load_to
-  load_leaves t (Value x) k = (f, e)
-  load_leaves t (loaded.Fails fault) k = k
+  load_leaves t (Value x) = (f, e)
+  load_leaves t (loaded.Fails fault) = tt
 
-  store_leaves : (s : Attempt) (after : List ℕ) → MeetsKnown s → length after ≡ 32768 → Leaves external (store_with r s after)
+  store_leaves : (s : Attempt) (after : List ℕ) → length after ≡ 32768 → Leaves external (store_with r s after)
   unfolding store_with
-  store_leaves Done after k l = (f, l)
-  store_leaves (attempt.Fails fault) after k l = k
+  store_leaves Done after l = (f, l)
+  store_leaves (attempt.Fails fault) after l = tt
 
   -- RAM keeps its length
   same_length : (x at : ℕ) (size : Size) → length (store_le (width_of size) ram at x) ≡ 32768
@@ -106,31 +103,27 @@ module _ (external : ℕ) (r : Record) (window : Window) (ram : List ℕ) (f : F
 
   stack_store : (t address : ℕ) → Leaves external (store_at r window ram t address)
   stack_store t address =
-      store_leaves (stack_stored window address) (after_stack_store window ram address (register r t)) (stack_store_known window address)
+      store_leaves (stack_stored window address) (after_stack_store window ram address (register r t))
       (stack_keeps (λ after. length after ≡ 32768) window ram (register r t) e (same_length (register r t)) address)
 
   base_store : (size : Size) (t imm12 : ℕ) → Leaves external (store_base r window ram size t imm12)
   base_store size t imm12 =
       store_leaves (stored_by r.base window imm12 size) (after_store_by r.base window ram imm12 size (register r t))
-      (base_store_known r.base window imm12 size)
       (base_keeps (λ after. length after ≡ 32768) window ram (register r t) e (same_length (register r t)) r.base imm12 size)
-
-  by_base : (bytes : List ℕ) (size : Size) (n imm12 : ℕ) → LoadsKnown (loaded_base r window ram bytes size n imm12)
-  by_base bytes size n imm12 = base_load_known r.base (eqb n 9) window ram bytes imm12 size
 
   pub accessed_leaves : (page bytes : List ℕ) (access : Access) → Leaves external (accessed page bytes window access r ram)
   unfolding accessed
-  accessed_leaves page bytes (LdrLit t imm8) = load_leaves t (literal_loaded page r.place imm8) (literal_known page r.place imm8)
+  accessed_leaves page bytes (LdrLit t imm8) = load_leaves t (literal_loaded page r.place imm8)
   accessed_leaves page bytes (StrSp t imm8) = stack_store t (r.sp + 4 * imm8)
-  accessed_leaves page bytes (LdrSp t imm8) = load_leaves t (stack_loaded window ram (r.sp + 4 * imm8)) (stack_load_known window ram (r.sp + 4 * imm8))
+  accessed_leaves page bytes (LdrSp t imm8) = load_leaves t (stack_loaded window ram (r.sp + 4 * imm8))
   accessed_leaves page bytes (Str t imm12) = base_store Word t imm12
   accessed_leaves page bytes (Strb t imm12) = base_store Byte t imm12
   accessed_leaves page bytes (Strh t imm12) = base_store Halfword t imm12
-  accessed_leaves page bytes (Ldr n t imm12) = load_leaves t (loaded_base r window ram bytes Word n imm12) (by_base bytes Word n imm12)
-  accessed_leaves page bytes (Ldrb n t imm12) = load_leaves t (loaded_base r window ram bytes Byte n imm12) (by_base bytes Byte n imm12)
-  accessed_leaves page bytes (Ldrh n t imm12) = load_leaves t (loaded_base r window ram bytes Halfword n imm12) (by_base bytes Halfword n imm12)
-  accessed_leaves page bytes (Ldrsb n t imm12) = load_leaves t (signed_loaded Byte (loaded_base r window ram bytes Byte n imm12)) (signed_known Byte (loaded_base r window ram bytes Byte n imm12) (by_base bytes Byte n imm12))
-  accessed_leaves page bytes (Ldrsh n t imm12) = load_leaves t (signed_loaded Halfword (loaded_base r window ram bytes Halfword n imm12)) (signed_known Halfword (loaded_base r window ram bytes Halfword n imm12) (by_base bytes Halfword n imm12))
+  accessed_leaves page bytes (Ldr n t imm12) = load_leaves t (loaded_base r window ram bytes Word n imm12)
+  accessed_leaves page bytes (Ldrb n t imm12) = load_leaves t (loaded_base r window ram bytes Byte n imm12)
+  accessed_leaves page bytes (Ldrh n t imm12) = load_leaves t (loaded_base r window ram bytes Halfword n imm12)
+  accessed_leaves page bytes (Ldrsb n t imm12) = load_leaves t (signed_loaded Byte (loaded_base r window ram bytes Byte n imm12))
+  accessed_leaves page bytes (Ldrsh n t imm12) = load_leaves t (signed_loaded Halfword (loaded_base r window ram bytes Halfword n imm12))
 
   -- ---- services
 
@@ -146,7 +139,7 @@ module _ (external : ℕ) (r : Record) (window : Window) (ram : List ℕ) (f : F
     where
       go : (t : Bool) → ltb r.sp (0x10000 + 4 * words) ≡ t
           → Leaves external (cond t (fails LowStack) (does (writing_sp (writes_nothing r) (r.sp - 4 * words)) ram))
-      go true l = omega arith
+      go true l = tt
       go false l = (lower_fits (writes_nothing r) words external (ltb-false r.sp (0x10000 + 4 * words) l) f, e)
 
   pub service_leaves : (s : Service) → Leaves external (service_does external window s r ram)
@@ -160,7 +153,7 @@ module _ (external : ℕ) (r : Record) (window : Window) (ram : List ℕ) (f : F
   service_leaves Preload = none_leaves
   service_leaves (SetBase a) = base_leaves a
   service_leaves (StoreAtSp t a) = none_after external _ (stack_store t (r.sp + a))
-  service_leaves (LoadAtSp t a) = none_after external _ (load_leaves t (stack_loaded window ram (r.sp + a)) (stack_load_known window ram (r.sp + a)))
+  service_leaves (LoadAtSp t a) = none_after external _ (load_leaves t (stack_loaded window ram (r.sp + a)))
   service_leaves (LowerSp words) = none_after external _ (lower_leaves words)
   service_leaves (DirectSyscall n) = none_leaves
   service_leaves (Validate n) = base_leaves (register r n)

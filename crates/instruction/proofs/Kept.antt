@@ -1,6 +1,7 @@
 -- From a fit record, place and RAM an instruction goes on or exits with fit ones, an exit being by a service that stands there, or
 -- it meets one of the seven faults; and a fit place starts a listed instruction.
 use Prim.Native.Nat.{ℕ, ◌*◌}
+use native.Mathlib.Omega.{arith}
 use mathlib.Core.Bool.{Bool, true, false, not}
 use mathlib.Core.List.{List}
 use mathlib.Core.Path.{◌≡◌, refl, ap}
@@ -24,6 +25,9 @@ use Rattle.ending.specs.Endings.{ending_in}
 use Rattle.ending.specs.declared.Ending.{Ending}
 use Rattle.ending.specs.declared.Ending.TheVariants as ending
 use Rattle.flow.specs.Flow.{ends_flow, jump_to, service_jump, flow_by, flow_of}
+use Rattle.memory.specs.Faults.{fault_number}
+use Rattle.memory.specs.declared.Fault.{Fault}
+use Rattle.memory.specs.declared.Fault.TheVariants.{NoBase, PastRam, OffExternalPage, PastStack, LowStack, PastPage, OutsideWindow}
 use Rattle.state.specs.FitRecord.{fit_record}
 use Rattle.state.specs.Record.{register, with_place}
 use Rattle.writing.specs.Writes.{writes_nothing, applied}
@@ -39,6 +43,15 @@ use Rattle.instruction.specs.Instructions.{end_at, branch_to, branch_if, exit_of
 use Rattle.instruction.specs.Fitness.{Fit, Starts, ServiceAt, is_exit, Known}
 use Rattle.instruction.proofs.FitPlaces.{LeadsFrom, leads, leads_listed}
 use Rattle.instruction.proofs.FitRecords.{FitWrites, Leaves, accessed_leaves, service_leaves}
+
+known : (f : Fault) → Known (fault_number f)
+known NoBase = omega arith
+known PastRam = omega arith
+known OffExternalPage = omega arith
+known PastStack = omega arith
+known LowStack = omega arith
+known PastPage = omega arith
+known OutsideWindow = omega arith
 
 -- ---- each way to go on or to exit
 
@@ -62,7 +75,7 @@ module _ (setting : Setting) (r : Record) (ram : List ℕ) (f : Fit setting r ra
       → (place : ℕ) (o : Outcome) → Leaves (length setting.external) o → fit_place program place ≡ true → Kept (end_at end r place o)
   unfolding end_at
   end_kept end k place (does w after) h p = k _ _ (fit_at w after place h p)
-  end_kept end k place (fails fault) h p = h
+  end_kept end k place (fails fault) h p = known fault
 
   fit_writes : FitWrites (length setting.external) (writes_nothing r)
   unfolding fit_record

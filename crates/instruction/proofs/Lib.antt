@@ -1,5 +1,4 @@
 pub mod FitPlaces
-pub mod KnownFaults
 pub mod FitRecords
 pub mod Kept
 pub mod ReadsAtPlace
