@@ -264,53 +264,32 @@ fn refusal_order(rt: &HostRuntime) {
     run_lengths(rt, full, backward, unfit, 4, 32768, 0);
 }
 
+// A page of one bundle and areas of full length.
+fn run_record(rt: &HostRuntime, r: Record) {
+    run_lengths(
+        rt,
+        platform::default_platform(),
+        window::whole_ram(),
+        r,
+        4,
+        32768,
+        256,
+    );
+}
+
 // SP, base and place are not fit; from one call to the next one thing less, first with a RAM offset, then with an external one.
 fn refused_records(rt: &HostRuntime) {
     show_line(rt, b"# order: 41, 42, then 43 or 44, then 5");
-    let full = platform::default_platform();
-    let whole = window::whole_ram();
     let placed = state::set_place(state::fresh_record(), 2);
     let in_ram = state::set_base(placed, Base::Ram(0x10_0000));
     let in_external = state::set_base(placed, Base::External(256));
-    run_lengths(
-        rt,
-        full,
-        whole,
-        state::set_sp(in_ram, 0xFFFE),
-        4,
-        32768,
-        256,
-    );
-    run_lengths(
-        rt,
-        full,
-        whole,
-        state::set_sp(in_ram, 0x17FFE),
-        4,
-        32768,
-        256,
-    );
-    run_lengths(rt, full, whole, in_ram, 4, 32768, 256);
-    run_lengths(
-        rt,
-        full,
-        whole,
-        state::set_sp(in_external, 0x18002),
-        4,
-        32768,
-        256,
-    );
-    run_lengths(
-        rt,
-        full,
-        whole,
-        state::set_sp(in_external, 0x10002),
-        4,
-        32768,
-        256,
-    );
-    run_lengths(rt, full, whole, in_external, 4, 32768, 256);
-    run_lengths(rt, full, whole, placed, 4, 32768, 256);
+    run_record(rt, state::set_sp(in_ram, 0xFFFE));
+    run_record(rt, state::set_sp(in_ram, 0x17FFE));
+    run_record(rt, in_ram);
+    run_record(rt, state::set_sp(in_external, 0x18002));
+    run_record(rt, state::set_sp(in_external, 0x10002));
+    run_record(rt, in_external);
+    run_record(rt, placed);
 }
 
 // Each alone.
