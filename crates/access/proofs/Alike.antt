@@ -1,4 +1,5 @@
 -- Loads and stores by two windows and in two related RAMs come to the same.
+use Rattle.std.specs.Prelude.{Result, Err}
 use Prim.Native.Nat.{ℕ, ◌+◌, ◌-◌, ◌*◌, ◌/◌}
 use mathlib.Core.Bool.{Bool, true, false, cond}
 use mathlib.Core.List.{List}
@@ -15,10 +16,6 @@ use Rattle.memory.specs.Faults.{fault_number}
 use Rattle.memory.specs.Memory.{ram_loaded, after_if, ram_stored, ram_after, stored_by, after_store_by}
 use Rattle.memory.specs.declared.Fault.{Fault}
 use Rattle.memory.specs.declared.Fault.TheVariants.{NoBase, PastRam, PastStack, LowStack, PastPage}
-use Rattle.memory.specs.declared.Loaded.{Loaded}
-use Rattle.memory.specs.declared.Loaded.TheVariants as loaded
-use Rattle.memory.specs.declared.Attempt.{Attempt}
-use Rattle.memory.specs.declared.Attempt.TheVariants as attempt
 use Rattle.memory.proofs.Alike.{Alike, both, fault, alike_map, Related, BothPass, BothLoaded, LoadsAlike, same_loads, signed_loads, accesses, ram_loads, base_loads}
 use Rattle.state.specs.Record.{register}
 use Rattle.state.specs.declared.Base.{Base}
@@ -46,18 +43,18 @@ module _ (w v : Window) (S : List ℕ → List ℕ → Type 0) (h : Related w v 
 
   -- ---- loads
 
-  load_alike : (t : ℕ) (x y : Loaded) → LoadsAlike w v x y → Same (load_to r a t x) (load_to r b t y)
+  load_alike : (t : ℕ) (x y : Result ℕ Fault) → LoadsAlike w v x y → Same (load_to r a t x) (load_to r b t y)
   unfolding load_to
   load_alike t =
-      alike_map w v loaded.Fails fails BothLoaded (BothDone S) (load_to r a t) (load_to r b t) (λ e. refl) (λ e. refl)
+      alike_map w v Err fails BothLoaded (BothDone S) (load_to r a t) (load_to r b t) (λ e. refl) (λ e. refl)
       (λ x y l. (_, a, b, ap (load_to r a t) l.1, ap (load_to r b t) l.2, s))
 
   stack_loads : (address : ℕ) → LoadsAlike w v (stack_loaded w a address) (stack_loaded v b address)
   unfolding stack_loaded
   stack_loads address = go (ltb address 0x10000)
     where
-      loaded-by : Window → List ℕ → Bool → Loaded
-      loaded-by window ram low = cond low (loaded.Fails LowStack) (ram_loaded window ram (address - 0x10000) Word PastStack)
+      loaded-by : Window → List ℕ → Bool → Result ℕ Fault
+      loaded-by window ram low = cond low (Err LowStack) (ram_loaded window ram (address - 0x10000) Word PastStack)
 
       go : (low : Bool) → LoadsAlike w v (loaded-by w a low) (loaded-by v b low)
       go true = fault LowStack refl refl refl
@@ -76,14 +73,14 @@ module _ (w v : Window) (S : List ℕ → List ℕ → Type 0) (h : Related w v 
       → Same (store_with r (ram_stored w at size past) (ram_after w a at size past x)) (store_with r (ram_stored v at size past) (ram_after v b at size past x))
   unfolding ram_after store_with
   ram_stores at size past x n =
-      alike_map w v attempt.Fails fails (BothPass w at bytes) (BothDone S) (left a) (left b) (λ e. refl) (λ e. refl)
+      alike_map w v Err fails (BothPass w at bytes) (BothDone S) (left a) (left b) (λ e. refl) (λ e. refl)
       (λ p q d. (writes_nothing r, _, _, ap (left a) d.0, ap (left b) d.1, h.writes a b s at bytes x d.2))
       _ _ (accesses w v S h at bytes past n)
     where
       bytes : ℕ
       bytes = width_of size
 
-      left : List ℕ → Attempt → Outcome
+      left : List ℕ → Result Unit Fault → Outcome
       left ram t = store_with r t (after_if t (store_le bytes ram at x) ram)
 
   pub stack_store : (t address : ℕ) → Same (store_at r w a t address) (store_at r v b t address)
@@ -92,7 +89,7 @@ module _ (w v : Window) (S : List ℕ → List ℕ → Type 0) (h : Related w v 
     where
       stored-by : Window → List ℕ → Bool → Outcome
       stored-by window ram low =
-          store_with r (cond low (attempt.Fails LowStack) (ram_stored window (address - 0x10000) Word PastStack))
+          store_with r (cond low (Err LowStack) (ram_stored window (address - 0x10000) Word PastStack))
           (cond low ram (ram_after window ram (address - 0x10000) Word PastStack (register r t)))
 
       go : (low : Bool) → Same (stored-by w a low) (stored-by v b low)

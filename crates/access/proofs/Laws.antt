@@ -1,4 +1,5 @@
 -- What the code gives back, as the outcome that it stands for.
+use Rattle.std.specs.Prelude.{Result, Ok, Err}
 use Prim.Native.Nat.{ℕ, ◌+◌, ◌-◌}
 use mathlib.Core.Bool.{Bool, true, false, cond}
 use mathlib.Core.List.{List}
@@ -11,8 +12,6 @@ use Rattle.window.specs.declared.Window.{Window}
 use Rattle.memory.specs.Memory.{after_if, ram_stored, ram_after, stored_by, after_store_by}
 use Rattle.memory.specs.declared.Fault.{Fault}
 use Rattle.memory.specs.declared.Fault.TheVariants.{PastRam, PastStack, LowStack}
-use Rattle.memory.specs.declared.Attempt.{Attempt}
-use Rattle.memory.specs.declared.Attempt.TheVariants as attempt
 use Rattle.state.specs.declared.Base.{Base}
 use Rattle.state.specs.declared.Base.TheVariants.{Nothing, Ram, External}
 use Rattle.state.specs.declared.Record.{Record}
@@ -25,9 +24,9 @@ ram_by : (r : Record) (window : Window) (ram : List ℕ) (at : ℕ) (size : Size
 unfolding ram_after store_with outcome_ram
 ram_by r window ram at size past x = by (ram_stored window at size past) (store_le (width_of size) ram at x)
   where
-    by : (t : Attempt) (after : List ℕ) → after_if t after ram ≡ outcome_ram ram (store_with r t (after_if t after ram))
-    by attempt.Done after = refl
-    by (attempt.Fails fault) after = refl
+    by : (t : Result Unit Fault) (after : List ℕ) → after_if t after ram ≡ outcome_ram ram (store_with r t (after_if t after ram))
+    by (Ok t) after = refl
+    by (Err fault) after = refl
 
 pub stack_ram : (r : Record) (window : Window) (ram : List ℕ) (address x : ℕ)
     → after_stack_store window ram address x ≡ outcome_ram ram (store_with r (stack_stored window address) (after_stack_store window ram address x))
@@ -39,7 +38,7 @@ stack_ram r window ram address x = by (ltb address 0x10000)
 
     by : (t : Bool)
         → cond t ram after
-        ≡ outcome_ram ram (store_with r (cond t (attempt.Fails LowStack) (ram_stored window (address - 0x10000) Word PastStack)) (cond t ram after))
+        ≡ outcome_ram ram (store_with r (cond t (Err LowStack) (ram_stored window (address - 0x10000) Word PastStack)) (cond t ram after))
     by true = refl
     by false = ram_by r window ram (address - 0x10000) Word PastStack x
 

@@ -1,4 +1,6 @@
 -- What an access keeps.
+use Rattle.memory.specs.declared.Fault.{Fault}
+use Rattle.std.specs.Prelude.{Result, Ok, Err}
 use Prim.Native.Nat.{ℕ, ◌-◌}
 use mathlib.Core.Bool.{Bool, true, false, cond}
 use mathlib.Core.List.{List}
@@ -11,17 +13,15 @@ use Rattle.window.specs.declared.Window.{Window}
 use Rattle.memory.specs.Memory.{ram_after}
 use Rattle.memory.proofs.Ram.{ram_keeps}
 use Rattle.memory.specs.declared.Fault.TheVariants.{PastStack}
-use Rattle.memory.specs.declared.Loaded.{Loaded}
-use Rattle.memory.specs.declared.Loaded.TheVariants as loaded
 use Rattle.state.specs.declared.Record.{Record}
 use Rattle.access.specs.Outcomes.{load_to, outcome_ram}
 use Rattle.access.specs.LoadsAndStores.{after_stack_store}
 
 -- a load changes no RAM
-pub load_ram : (r : Record) (ram : List ℕ) (t : ℕ) (l : Loaded) → ram ≡ outcome_ram ram (load_to r ram t l)
+pub load_ram : (r : Record) (ram : List ℕ) (t : ℕ) (l : Result ℕ Fault) → ram ≡ outcome_ram ram (load_to r ram t l)
 unfolding load_to outcome_ram
-load_ram r ram t (loaded.Value x) = refl
-load_ram r ram t (loaded.Fails f) = refl
+load_ram r ram t (Ok x) = refl
+load_ram r ram t (Err f) = refl
 
 -- what every store keeps, one on the stack does
 pub stack_keeps : (P : List ℕ → Type 0) (window : Window) (ram : List ℕ) (x : ℕ) → P ram

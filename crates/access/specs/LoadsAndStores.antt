@@ -1,16 +1,12 @@
 -- Loads and stores by the stack pointer, by the base and from the literal pool.
-use Rattle.std.specs.Prelude.{ℕ, ◌+◌, ◌-◌, ◌*◌, ◌/◌, cond, List, ltb, eqb}
+use Rattle.std.specs.Prelude.{ℕ, ◌+◌, ◌-◌, ◌*◌, ◌/◌, cond, List, Result, Ok, Err, ltb, eqb}
 use Rattle.endian.specs.declared.Size.{Size}
 use Rattle.endian.specs.declared.Size.TheVariants.{Byte, Halfword, Word}
 use Rattle.page.specs.Page.{bundles_in, word_at}
 use Rattle.window.specs.declared.Window.{Window}
 use Rattle.memory.specs.Memory.{ram_loaded, ram_stored, ram_after, loaded_by, stored_by, after_store_by, signed_loaded}
+use Rattle.memory.specs.declared.Fault.{Fault}
 use Rattle.memory.specs.declared.Fault.TheVariants.{PastStack, LowStack, PastPage}
-use Rattle.memory.specs.declared.Loaded.{Loaded}
-use Rattle.memory.specs.declared.Loaded.TheVariants.{Value}
-use Rattle.memory.specs.declared.Loaded.TheVariants as loaded
-use Rattle.memory.specs.declared.Attempt.{Attempt}
-use Rattle.memory.specs.declared.Attempt.TheVariants as attempt
 use Rattle.isa.specs.declared.Access.{Access}
 use Rattle.isa.specs.declared.Access.TheVariants.{LdrLit, StrSp, LdrSp, Str, Strb, Strh, Ldr, Ldrb, Ldrh, Ldrsb, Ldrsh}
 use Rattle.state.specs.Record.{register}
@@ -20,12 +16,12 @@ use Rattle.access.specs.Outcomes.{Outcome, load_to, store_with}
 -- ---- the stack: a word at an address, which is SP and more, without wrapping. Past 0x18000 is fault 4, then outside the window
 -- fault 7. Below 0x10000 it is SP that lies there, fault 5; no fit record has such an SP
 
-unfoldable pub stack_loaded : Window → List ℕ → ℕ → Loaded
+unfoldable pub stack_loaded : Window → List ℕ → ℕ → Result ℕ Fault
 stack_loaded window ram address =
-    cond (ltb address 0x10000) (loaded.Fails LowStack) (ram_loaded window ram (address - 0x10000) Word PastStack)
+    cond (ltb address 0x10000) (Err LowStack) (ram_loaded window ram (address - 0x10000) Word PastStack)
 
-unfoldable pub stack_stored : Window → ℕ → Attempt
-stack_stored window address = cond (ltb address 0x10000) (attempt.Fails LowStack) (ram_stored window (address - 0x10000) Word PastStack)
+unfoldable pub stack_stored : Window → ℕ → Result Unit Fault
+stack_stored window address = cond (ltb address 0x10000) (Err LowStack) (ram_stored window (address - 0x10000) Word PastStack)
 
 unfoldable pub after_stack_store : Window → List ℕ → ℕ → ℕ → List ℕ
 after_stack_store window ram address x = cond (ltb address 0x10000) ram (ram_after window ram (address - 0x10000) Word PastStack x)
@@ -38,9 +34,9 @@ store_at r window ram t address = store_with r (stack_stored window address) (af
 
 -- ---- the literal pool: in bundle k, the word of bundle k + 1 + imm8, from either half; past the page is fault 6
 
-unfoldable pub literal_loaded : List ℕ → ℕ → ℕ → Loaded
+unfoldable pub literal_loaded : List ℕ → ℕ → ℕ → Result ℕ Fault
 literal_loaded page place imm8 =
-    cond (ltb (place / 2 + 1 + imm8) (bundles_in page)) (Value (word_at page (place / 2 + 1 + imm8))) (loaded.Fails PastPage)
+    cond (ltb (place / 2 + 1 + imm8) (bundles_in page)) (Ok (word_at page (place / 2 + 1 + imm8))) (Err PastPage)
 
 -- ---- by the base: stores by r9; loads by r8 or r9, of which r9 needs a RAM base
 
@@ -48,7 +44,7 @@ abbrev pub store_base : Record → Window → List ℕ → Size → ℕ → ℕ 
 store_base r window ram size t imm12 =
     store_with r (stored_by r.base window imm12 size) (after_store_by r.base window ram imm12 size (register r t))
 
-abbrev pub loaded_base : Record → Window → List ℕ → List ℕ → Size → ℕ → ℕ → Loaded
+abbrev pub loaded_base : Record → Window → List ℕ → List ℕ → Size → ℕ → ℕ → Result ℕ Fault
 loaded_base r window ram external size n imm12 = loaded_by r.base (eqb n 9) window ram external imm12 size
 
 abbrev pub load_base : Record → Window → List ℕ → List ℕ → Size → ℕ → ℕ → ℕ → Outcome

@@ -1,4 +1,4 @@
-// What loads and stores do to registers and RAM, and which fault they meet; never the place.
+// What loads and stores do to registers and RAM, and which fault they meet; never the place. Each comes to what it writes, or to a fault.
 #![tactic(auto)]
 
 ghost use Rattle.std.specs.Prelude.{◌≡◌};
@@ -7,35 +7,30 @@ ghost use Rattle.access.specs.LoadsAndStores.{stack_loaded, stack_stored, after_
 
 use endian::Size;
 use isa::Access;
-use memory::{Attempt, Fault, Loaded};
+use memory::Fault;
 use state::Record;
 use window::Window;
-use writing::{Write, Writes};
-
-// What an instruction comes to: what it writes, or the fault that it meets.
-#[derive(Clone, Copy)]
-pub enum Did {
-    Writes(Writes),
-    Fails(Fault),
-}
+use writing::Writes;
 
 // ---- the stack
 
-fn stack_load(window: Window, ram: &[u8], address: usize) -> Loaded
+#[tactic(auto, unfolding(crate::specs::LoadsAndStores::stack_loaded))]
+fn stack_load(window: Window, ram: &[u8], address: usize) -> Result<u32, Fault>
     ensures { result ≡ stack_loaded window ram.now address }
 {
     if address < 0x10000 {
-        Loaded::Fails(Fault::LowStack)
+        Err(Fault::LowStack)
     } else {
         memory::ram_load(window, ram, address - 0x10000, Size::Word, Fault::PastStack)
     }
 }
 
-fn stack_store(window: Window, ram: &mut [u8], address: usize, x: u32) -> Attempt
+#[tactic(auto, unfolding(crate::specs::LoadsAndStores::stack_stored, crate::specs::LoadsAndStores::after_stack_store))]
+fn stack_store(window: Window, ram: &mut [u8], address: usize, x: u32) -> Result<(), Fault>
     ensures { (result ≡ stack_stored window address) × (ram.new ≡ after_stack_store window ram.old address x) }
 {
     if address < 0x10000 {
-        Attempt::Fails(Fault::LowStack)
+        Err(Fault::LowStack)
     } else {
         memory::ram_store(
             window,
@@ -49,35 +44,44 @@ fn stack_store(window: Window, ram: &mut [u8], address: usize, x: u32) -> Attemp
 }
 
 // What was loaded goes to register t.
-fn load_to(r: Record, t: u8, l: Loaded) -> Did
+#[tactic(auto, unfolding(crate::specs::Outcomes::load_to, crate::specs::Outcomes::did_of))]
+fn load_to(r: Record, t: u8, l: Result<u32, Fault>) -> Result<Writes, Fault>
     ensures { DoesAny (λ m. load_to r m t l) result }
 {
-    let flags = r.flags;
-    match l {
-        Loaded::Value(x) => Did::Writes(writing::keeping(r, Write::Register(t, x), flags)),
-        Loaded::Fails(fault) => Did::Fails(fault),
-    }
+    Ok(writing::keeping(r, Some((t, l?)), r.flags))
 }
 
 // A store writes no register.
-fn stored(r: Record, s: Attempt) -> Did
+#[tactic(auto, unfolding(crate::specs::Outcomes::store_with, crate::specs::Outcomes::did_of))]
+fn stored(r: Record, s: Result<(), Fault>) -> Result<Writes, Fault>
     ensures { DoesAny (λ m. store_with r s m) result }
 {
-    match s {
-        Attempt::Done => Did::Writes(writing::writes_nothing(r)),
-        Attempt::Fails(fault) => Did::Fails(fault),
-    }
+    s?;
+    Ok(writing::writes_nothing(r))
 }
 
 // Register t from the stack.
-pub fn load_at(r: Record, window: Window, ram: &[u8], t: u8, address: usize) -> Did
+pub fn load_at(
+    r: Record,
+    window: Window,
+    ram: &[u8],
+    t: u8,
+    address: usize,
+) -> Result<Writes, Fault>
     ensures { result ≡ did_of (load_at r window ram.now t address) }
 {
     load_to(r, t, stack_load(window, ram, address))
 }
 
 // Register t to the stack.
-pub fn store_at(r: Record, window: Window, ram: &mut [u8], t: u8, address: usize) -> Did
+#[tactic(auto, using(crate::proofs::Laws::stack_ram))]
+pub fn store_at(
+    r: Record,
+    window: Window,
+    ram: &mut [u8],
+    t: u8,
+    address: usize,
+) -> Result<Writes, Fault>
     ensures { Does ram.old (store_at r window ram.old t address) result ram.new }
 {
     stored(
@@ -89,26 +93,34 @@ pub fn store_at(r: Record, window: Window, ram: &mut [u8], t: u8, address: usize
 // ---- the literal pool
 
 // The bundle is that of the place, so PC is aligned.
-fn literal_load(page: &[u8], place: u16, imm8: u8) -> Loaded
+#[tactic(auto, unfolding(crate::specs::LoadsAndStores::literal_loaded))]
+fn literal_load(page: &[u8], place: u16, imm8: u8) -> Result<u32, Fault>
     ensures { result ≡ literal_loaded page.now place imm8 }
 {
     let bundle = (place / 2) as u32 + 1 + imm8 as u32;
     if (bundle as usize) < page.len() / 4 {
-        Loaded::Value(page::word(page, bundle))
+        Ok(page::word(page, bundle))
     } else {
-        Loaded::Fails(Fault::PastPage)
+        Err(Fault::PastPage)
     }
 }
 
-// ---- by the base
+// ---- by the base; page, external data and window stand apart here, since no program and no platform is read
 
-fn store_base(r: Record, window: Window, ram: &mut [u8], size: Size, t: u8, imm12: u16) -> Did
+#[tactic(auto, using(crate::proofs::Laws::base_ram))]
+fn store_base(
+    r: Record,
+    window: Window,
+    ram: &mut [u8],
+    size: Size,
+    t: u8,
+    imm12: u16,
+) -> Result<Writes, Fault>
     ensures { Does ram.old (store_base r window ram.old size t imm12) result ram.new }
 {
-    let base = r.base;
     stored(
         r,
-        memory::store_by(base, window, ram, imm12, size, state::register_of(r, t)),
+        memory::store_by(r.base, window, ram, imm12, size, state::register_of(r, t)),
     )
 }
 
@@ -121,11 +133,10 @@ fn loaded_by(
     size: Size,
     n: u8,
     imm12: u16,
-) -> Loaded
+) -> Result<u32, Fault>
     ensures { result ≡ loaded_base r window ram.now external.now size n imm12 }
 {
-    let base = r.base;
-    memory::load_by(base, n == 9, window, ram, external, imm12, size)
+    memory::load_by(r.base, n == 9, window, ram, external, imm12, size)
 }
 
 fn load(
@@ -137,7 +148,7 @@ fn load(
     n: u8,
     t: u8,
     imm12: u16,
-) -> Did
+) -> Result<Writes, Fault>
     ensures { result ≡ did_of (load_base r window ram.now external.now size n t imm12) }
 {
     load_to(r, t, loaded_by(r, window, ram, external, size, n, imm12))
@@ -152,7 +163,7 @@ fn signed(
     n: u8,
     t: u8,
     imm12: u16,
-) -> Did
+) -> Result<Writes, Fault>
     ensures { result ≡ did_of (load_signed r window ram.now external.now size n t imm12) }
 {
     load_to(
@@ -164,6 +175,7 @@ fn signed(
 
 // ---- the instructions, in the order of the listed encodings; operands as in `isa::Access`
 
+#[tactic(auto, using(crate::proofs::Theorems::load_ram), unfolding(crate::specs::LoadsAndStores::accessed))]
 pub fn perform(
     page: &[u8],
     external: &[u8],
@@ -171,7 +183,7 @@ pub fn perform(
     access: Access,
     r: Record,
     ram: &mut [u8],
-) -> Did
+) -> Result<Writes, Fault>
     ensures { Does ram.old (accessed page.now external.now window access r ram.old) result ram.new }
 {
     let sp = r.sp as usize;

@@ -2,10 +2,11 @@
 #![tactic(auto)]
 
 ghost use Rattle.std.specs.Prelude.{◌-◌, ◌≡◌};
-ghost use Rattle.image.specs.Images.{image_of};
+ghost use Rattle.image.specs.Images.{seen_image};
 ghost use Rattle.address.specs.Addresses.{address_of, page_of, place_of, in_image, fit_in, fit_address};
 
-use platform::Platform;
+use image::Image;
+use platform::Program;
 
 pub fn address_of(page: u16, place: u16) -> u32
     ensures { result ≡ address_of page place }
@@ -35,29 +36,34 @@ pub fn place_of(address: u32) -> u16
     (offset_of(address) % 256 / 2) as u16
 }
 
-pub fn in_image(image: &[u8], index: &[u8], platform: Platform, p: u32) -> bool
-    ensures { result ≡ in_image (image_of image.now index.now platform) p }
+// The image has a page p.
+#[tactic(auto, unfolding(crate::specs::Addresses::in_image))]
+pub fn in_image(image: &Image, p: u32) -> bool
+    ensures { result ≡ in_image (seen_image image.now) p }
 {
-    if !image::fits(image) {
-        return false;
-    }
-    (p as usize) < image.len() / 256
+    image::fits(image.pages) && (p as usize) < image.pages.len() / 256
 }
 
 // A place of page p.
-pub fn is_fit(image: &[u8], index: &[u8], platform: Platform, p: u32, place: u16) -> bool
-    ensures { result ≡ fit_in (image_of image.now index.now platform) p place }
+#[tactic(auto, unfolding(crate::specs::Addresses::fit_in))]
+pub fn is_fit(image: &Image, p: u32, place: u16) -> bool
+    ensures { result ≡ fit_in (seen_image image.now) p place }
 {
-    if !in_image(image, index, platform, p) {
+    if !in_image(image, p) {
         return false;
     }
-    let count = endian::byte(index, p as usize) as u32;
+    let count = endian::byte(image.index, p as usize) as u32;
     let at = 256 * (p as usize);
-    place::is_fit(&image[at..at + 256], platform, count, place)
+    let program = Program {
+        page: &image.pages[at..at + 256],
+        platform: image.platform,
+    };
+    place::is_fit(&program, count, place)
 }
 
-pub fn is_fit_address(image: &[u8], index: &[u8], platform: Platform, address: u32) -> bool
-    ensures { result ≡ fit_address (image_of image.now index.now platform) address }
+#[tactic(auto, unfolding(crate::specs::Addresses::fit_address))]
+pub fn is_fit_address(image: &Image, address: u32) -> bool
+    ensures { result ≡ fit_address (seen_image image.now) address }
 {
     if address < 0x8000_0000 {
         return false;
@@ -65,5 +71,5 @@ pub fn is_fit_address(image: &[u8], index: &[u8], platform: Platform, address: u
     if address % 2 != 0 {
         return false;
     }
-    is_fit(image, index, platform, page_of(address), place_of(address))
+    is_fit(image, page_of(address), place_of(address))
 }

@@ -2,87 +2,67 @@
 #![tactic(auto)]
 
 ghost use Rattle.std.specs.Prelude.{[], ◌∷◌, ◌≡◌, length};
-ghost use Rattle.platform.specs.Programs.{program_of, setting_of};
+ghost use Rattle.platform.specs.Programs.{seen_program, seen_setting};
 ghost use Rattle.refusal.specs.Refusals.{decision, decision_of};
 ghost use Rattle.state.specs.Validation.{external_rule};
 ghost use Rattle.admission.specs.RunRefusals.{lent_rules, area_rules, place_rule, record_rules, run_decision};
 
-use platform::Platform;
-use refusal::{Refusal, Verdict};
+use platform::{Program, Setting};
+use refusal::Refusal;
 use state::Record;
 use window::Window;
 
-fn of_external(external: &[u8]) -> Verdict
+fn of_external(external: &[u8]) -> Result<(), Refusal>
     ensures { decision_of result ≡ decision (external_rule (length external.now) ∷ []) }
 {
     if !state::external_fits(external) {
-        return Verdict::Refused(Refusal::ExternalLength);
+        return Err(Refusal::ExternalLength);
     }
-    Verdict::Accepted
+    Ok(())
 }
 
-// RAM and external data have their lengths, and the window lies in RAM.
-pub fn of_lent(ram: &[u8], external: &[u8], window: Window) -> Verdict
+// RAM and external data have their lengths, and the window lies in RAM. A lone page's setting and an image's have these alone in common.
+pub fn of_lent(ram: &[u8], external: &[u8], window: Window) -> Result<(), Refusal>
     ensures { decision_of result ≡ decision (lent_rules external.now window ram.now) }
 {
     if ram.len() != 32768 {
-        return Verdict::Refused(Refusal::RamLength);
+        return Err(Refusal::RamLength);
     }
-    let data = of_external(external);
-    let bounds = window::of_window(window);
-    refusal::first_of(data, bounds)
+    of_external(external)?;
+    window::of_window(window)
 }
 
 // The profile is known, what is lent has its lengths, and the window lies in RAM.
-pub fn of_areas(
-    page: &[u8],
-    platform: Platform,
-    ram: &[u8],
-    external: &[u8],
-    window: Window,
-) -> Verdict
-    ensures { decision_of result ≡ decision (area_rules (setting_of (program_of page.now platform) external.now window) ram.now) }
+pub fn of_areas(setting: &Setting, ram: &[u8]) -> Result<(), Refusal>
+    ensures { decision_of result ≡ decision (area_rules (seen_setting setting.now) ram.now) }
 {
-    let program = platform::of_program(page, platform);
-    let lent = of_lent(ram, external, window);
-    refusal::first_of(program, lent)
+    platform::of_program(&setting.program)?;
+    of_lent(ram, setting.external, setting.window)
 }
 
-fn of_place(page: &[u8], platform: Platform, count: u32, place: u16) -> Verdict
-    ensures { decision_of result ≡ decision (place_rule (program_of page.now platform) count place ∷ []) }
+fn of_place(program: &Program, count: u32, place: u16) -> Result<(), Refusal>
+    ensures { decision_of result ≡ decision (place_rule (seen_program program.now) count place ∷ []) }
 {
-    if !place::is_fit(page, platform, count, place) {
-        return Verdict::Refused(Refusal::UnfitPlace);
+    if !place::is_fit(program, count, place) {
+        return Err(Refusal::UnfitPlace);
     }
-    Verdict::Accepted
+    Ok(())
 }
 
 // The record is fit, and so is its place, by a count of the page's bundles.
-pub fn of_record(page: &[u8], platform: Platform, count: u32, external: &[u8], r: Record) -> Verdict
-    ensures { decision_of result ≡ decision (record_rules (program_of page.now platform) count (length external.now) r) }
+pub fn of_record(program: &Program, count: u32, external: &[u8], r: Record) -> Result<(), Refusal>
+    ensures { decision_of result ≡ decision (record_rules (seen_program program.now) count (length external.now) r) }
 {
-    let fit = state::fitness(r, external.len());
-    let placed = of_place(page, platform, count, r.place);
-    refusal::first_of(fit, placed)
+    state::fitness(r, external.len())?;
+    of_place(program, count, r.place)
 }
 
 // On a lone page: the count is the page's own.
-pub fn verdict_of(
-    page: &[u8],
-    platform: Platform,
-    ram: &[u8],
-    external: &[u8],
-    window: Window,
-    r: Record,
-) -> Verdict
-    ensures { decision_of result ≡ run_decision (setting_of (program_of page.now platform) external.now window) r ram.now }
+#[tactic(auto, unfolding(crate::specs::RunRefusals::run_decision))]
+pub fn verdict_of(setting: &Setting, ram: &[u8], r: Record) -> Result<(), Refusal>
+    ensures { decision_of result ≡ run_decision (seen_setting setting.now) r ram.now }
 {
-    let areas = of_areas(page, platform, ram, external, window);
-    match areas {
-        Verdict::Refused(why) => Verdict::Refused(why),
-        Verdict::Accepted => {
-            let counted = count::count(page, platform);
-            of_record(page, platform, counted.count, external, r)
-        }
-    }
+    of_areas(setting, ram)?;
+    let count = count::count(&setting.program)?;
+    of_record(&setting.program, count, setting.external, r)
 }

@@ -44,7 +44,7 @@ pub fn mov(x: u32, f: Flags) -> Valued
     }
 }
 
-// ---- shifts of x by n
+// ---- shifts of x by n: four names for the manual's four, since the shift handed in as a function is no plainer
 
 pub fn lsl(x: u32, n: u8, f: Flags) -> Valued
     ensures { result ≡ operations.lsl x n f }

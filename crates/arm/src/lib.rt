@@ -51,8 +51,7 @@ pub fn with_nz(f: Flags, res: u32) -> Flags
     Flags {
         n: bits::field(res, 31, 1) == 1,
         z: res == 0,
-        c: f.c,
-        v: f.v,
+        ..f
     }
 }
 
@@ -60,12 +59,9 @@ pub fn with_nz(f: Flags, res: u32) -> Flags
 pub fn with_nzc(f: Flags, s: Shifted) -> Flags
     ensures { result ≡ with_nzc f s }
 {
-    let g = with_nz(f, s.value);
     Flags {
-        n: g.n,
-        z: g.z,
         c: s.carry,
-        v: g.v,
+        ..with_nz(f, s.value)
     }
 }
 
@@ -83,6 +79,7 @@ pub fn with_nzcv(s: Sum) -> Flags
 
 // ---- conditions
 
+// By its number, which is a field of the encoding: an enum would be made of it here and read nowhere else.
 pub fn condition_holds(k: u8, f: Flags) -> bool
     ensures { result ≡ condition_holds k f }
 {

@@ -12,7 +12,7 @@ use Rattle.bits.specs.Fields.{bits}
 use Rattle.bits.specs.Integers.{SInt}
 use Rattle.bits.proofs.Theorems.{sint_mag}
 use Rattle.branch.specs.Branches.{bundle_at, target_of, Near}
-use Rattle.branch.specs.declared.Target.TheVariants.{Bad, At}
+use Rattle.std.specs.Prelude.{Some, None}
 
 pub mag_times : (k : ℕ) (z : ℤ) → mag (pos k *ℤ z) ≤ k * suc (mag z)
 mag_times k (pos n) = mul-le-mul_left k (le-suc n)
@@ -34,7 +34,7 @@ unfolding bundle_at
 near_bundle (negsuc n) h = tt
 near_bundle (pos n) h = by (eqb (n % 4) 0)
   where
-    by : (t : Bool) → Near (cond t (At (n / 4)) Bad)
+    by : (t : Bool) → Near (cond t (Some (n / 4)) None)
     by true = omega arith
     by false = tt
 

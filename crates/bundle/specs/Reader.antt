@@ -1,11 +1,14 @@
 -- The bundle reader: bad, none or the largest successor.
-use Rattle.std.specs.Prelude.{ℕ, List, [], ◌∷◌, ◌++◌, leb}
+use Rattle.std.specs.Prelude.{ℕ, List, [], ◌∷◌, ◌++◌, leb, Result}
+use Rattle.std.specs.Result.{result_unwrap_or}
 use Rattle.refusal.specs.Refusals.{Decision, Rule, rule, decision, when_accepted, decision_of}
 use Rattle.prefix.specs.LargestSuccessor.{Reading, bad_bundle, largest_successor, reading_of}
 use Rattle.page.specs.Page.{bundles_in}
 use Rattle.platform.specs.Programs.{Program, program_rules}
 use Rattle.bundle.specs.Successors.{successors_of}
-use Rattle.bundle.specs.declared.Read.{Read}
+use Rattle.refusal.specs.declared.Refusal.{Refusal}
+use Rattle.prefix.specs.declared.LargestSuccessor.{LargestSuccessor}
+use Rattle.prefix.specs.declared.LargestSuccessor.TheVariants.{Bad}
 
 -- refusal 8
 abbrev pub bundle_rule : List ℕ → ℕ → Rule
@@ -28,5 +31,5 @@ read_bundle program k = record {
 }
 
 -- the code's answer, by the build paper's numbers and values
-abbrev pub seen_read : Read → ReaderAnswer
-seen_read r = record { decision = decision_of r.verdict; reading = reading_of r.largest }
+abbrev pub seen_read : Result LargestSuccessor Refusal → ReaderAnswer
+seen_read a = record { decision = decision_of a; reading = reading_of (result_unwrap_or a Bad) }

@@ -4,22 +4,15 @@
 ghost use Rattle.std.specs.Prelude.{◌≡◌, List, ℕ, ◌<◌};
 ghost use Rattle.prefix.specs.Prefix.{goes};
 ghost use Rattle.prefix.specs.LargestSuccessor.{largest_successor, reading_of};
-ghost use Rattle.platform.specs.Programs.{program_of};
+ghost use Rattle.platform.specs.Programs.{seen_program};
 ghost use Rattle.bundle.specs.Successors.{after_second, after_first, wide, successors_of};
 ghost use Rattle.bundle.specs.Reader.{read_bundle, seen_read};
 
 use flow::Flow;
 use isa::Instruction;
-use platform::Platform;
+use platform::Program;
 use prefix::LargestSuccessor;
-use refusal::{Refusal, Verdict};
-
-// What the reader answers.
-#[derive(Clone, Copy)]
-pub struct Read {
-    pub verdict: Verdict,
-    pub largest: LargestSuccessor,
-}
+use refusal::Refusal;
 
 // The second half, behind a first one whose targets have the largest successor r.
 fn after_second(r: LargestSuccessor, second: Flow, next: u32) -> LargestSuccessor
@@ -70,11 +63,13 @@ fn of_wide(i: Instruction, next: u32) -> LargestSuccessor
     }
 }
 
-fn largest_at(page: &[u8], platform: Platform, k: u32) -> LargestSuccessor
+#[tactic(auto, unfolding(crate::specs::Successors::successors_of))]
+fn largest_at(program: &Program, k: u32) -> LargestSuccessor
     requires { k < 64 }
-    ensures { reading_of result ≡ largest_successor (successors_of (program_of page.now platform) k) }
+    ensures { reading_of result ≡ largest_successor (successors_of (seen_program program.now) k) }
 {
-    let h = page::halves_of(page, k);
+    let platform = program.platform;
+    let h = page::halves_of(program.page, k);
     let first = h.first;
     let second = h.second;
     if isa::opens_32(first) {
@@ -87,31 +82,20 @@ fn largest_at(page: &[u8], platform: Platform, k: u32) -> LargestSuccessor
     let i = profile::decode16(platform, first);
     let j = profile::decode16(platform, second);
     after_first(
-        flow::flow_of(page, platform, place, i),
+        flow::flow_of(program, place, i),
         flow::is_listed(j),
-        flow::flow_of(page, platform, place + 1, j),
+        flow::flow_of(program, place + 1, j),
         k + 1,
     )
 }
 
 // Bundle k of the page.
-pub fn read_bundle(page: &[u8], platform: Platform, k: u32) -> Read
-    ensures { seen_read result ≡ read_bundle (program_of page.now platform) k }
+pub fn read_bundle(program: &Program, k: u32) -> Result<LargestSuccessor, Refusal>
+    ensures { seen_read result ≡ read_bundle (seen_program program.now) k }
 {
-    if let Verdict::Refused(why) = platform::of_program(page, platform) {
-        return Read {
-            verdict: Verdict::Refused(why),
-            largest: LargestSuccessor::Bad,
-        };
+    platform::of_program(program)?;
+    if (k as usize) >= program.page.len() / 4 {
+        return Err(Refusal::NoSuchBundle);
     }
-    if (k as usize) >= page.len() / 4 {
-        return Read {
-            verdict: Verdict::Refused(Refusal::NoSuchBundle),
-            largest: LargestSuccessor::Bad,
-        };
-    }
-    Read {
-        verdict: Verdict::Accepted,
-        largest: largest_at(page, platform, k),
-    }
+    Ok(largest_at(program, k))
 }

@@ -83,5 +83,5 @@ demand2_of program = record { counted = counts_lem program; read = reads program
 pub demand2 : CallsMeetDemand2
 demand2 = record {
   counted = λ c. rw c.contract (demand2_of (program_of (count_page c) (count_platform c))).counted;
-  read = λ c. rw c.contract ((demand2_of (read_program c)).read c.arguments.1.1.0);
+  read = λ c. rw c.contract ((demand2_of (read_program c)).read c.arguments.1.0);
 }

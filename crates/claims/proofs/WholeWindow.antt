@@ -1,4 +1,5 @@
 -- With all of RAM as its window every answer without windows holds.
+use Rattle.std.specs.Prelude.{Ok, Err}
 use Prim.Native.Nat.{ℕ}
 use native.Mathlib.Omega.{arith}
 use mathlib.Core.Bool.{Bool, true, false, cond, true≢false}
@@ -15,10 +16,6 @@ use Rattle.memory.specs.Faults.{fault_number}
 use Rattle.memory.specs.Memory.{inside_ram, ram_access, loaded_if, ram_loaded, after_if, ram_after}
 use Rattle.memory.specs.declared.Fault.{Fault}
 use Rattle.memory.specs.declared.Fault.TheVariants.{OutsideWindow}
-use Rattle.memory.specs.declared.Loaded.TheVariants.{Value}
-use Rattle.memory.specs.declared.Loaded.TheVariants as loaded
-use Rattle.memory.specs.declared.Attempt.TheVariants.{Done}
-use Rattle.memory.specs.declared.Attempt.TheVariants as attempt
 use Rattle.memory.proofs.Ram.{whole_window}
 use Rattle.memory.proofs.Alike.{both}
 use Rattle.memory.proofs.Alike as alike
@@ -36,20 +33,20 @@ use Rattle.claims.specs.WholeWindow.{unwindowed, WholeWindow}
 
 -- ---- an access
 
-stored_whole : (at bytes : ℕ) (past : Fault) → ram_access whole_ram at bytes past ≡ cond (inside_ram at bytes) Done (attempt.Fails past)
+stored_whole : (at bytes : ℕ) (past : Fault) → ram_access whole_ram at bytes past ≡ cond (inside_ram at bytes) (Ok tt) (Err past)
 unfolding ram_access
 stored_whole at bytes past = rw (whole_window at bytes) (go (inside_ram at bytes))
   where
-    go : (t : Bool) → cond t (cond t Done (attempt.Fails OutsideWindow)) (attempt.Fails past) ≡ cond t Done (attempt.Fails past)
+    go : (t : Bool) → cond t (cond t (Ok (tt {0})) (Err OutsideWindow)) (Err past) ≡ cond t (Ok (tt {0})) (Err past)
     go true = refl
     go false = refl
 
 loaded_whole : (ram : List ℕ) (at : ℕ) (size : Size) (past : Fault)
-    → ram_loaded whole_ram ram at size past ≡ cond (inside_ram at (width_of size)) (Value (load_le (width_of size) ram at)) (loaded.Fails past)
+    → ram_loaded whole_ram ram at size past ≡ cond (inside_ram at (width_of size)) (Ok (load_le (width_of size) ram at)) (Err past)
 unfolding ram_loaded
 loaded_whole ram at size past = rw (stored_whole at (width_of size) past) (go (inside_ram at (width_of size)) (load_le (width_of size) ram at))
   where
-    go : (t : Bool) (x : ℕ) → loaded_if (cond t Done (attempt.Fails past)) x ≡ cond t (Value x) (loaded.Fails past)
+    go : (t : Bool) (x : ℕ) → loaded_if (cond t (Ok tt) (Err past)) x ≡ cond t (Ok x) (Err past)
     go true x = refl
     go false x = refl
 
@@ -58,7 +55,7 @@ after_whole : (ram : List ℕ) (at : ℕ) (size : Size) (past : Fault) (x : ℕ)
 unfolding ram_after
 after_whole ram at size past x = rw (stored_whole at (width_of size) past) (go (inside_ram at (width_of size)))
   where
-    go : (t : Bool) → after_if (cond t Done (attempt.Fails past)) (store_le (width_of size) ram at x) ram ≡ cond t (store_le (width_of size) ram at x) ram
+    go : (t : Bool) → after_if (cond t (Ok tt) (Err past)) (store_le (width_of size) ram at x) ram ≡ cond t (store_le (width_of size) ram at x) ram
     go true = refl
     go false = refl
 

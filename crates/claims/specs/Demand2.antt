@@ -7,7 +7,7 @@ use denote.Triple.Clauses.{AtExit}
 use Rattle.refusal.specs.Refusals.{accepted, refused}
 use Rattle.page.specs.Page.{page_fits, bundles_in}
 use Rattle.isa.specs.Profiles.{is_known}
-use Rattle.platform.specs.Programs.{Program, program_of}
+use Rattle.platform.specs.Programs.{Program, program_of, seen_program}
 use Rattle.platform.specs.declared.Platform.{Platform}
 use Rattle.prefix.specs.Prefix.{Successors, bad, goes, AllBelow, Greatest, single_pass, iterated}
 use Rattle.prefix.specs.LargestSuccessor.{Reading, bad_bundle, no_successor, largest}
@@ -72,34 +72,34 @@ pub record Demand2 (program : Program) : Type 0 where
   pub counted : Counts program (count_program program)
   pub read : (k : ℕ) → Reads program k (read_bundle program k)
 
--- a call of `count` as the checker reads it: the arguments (page and platform), the answer, what is lent at exit, and all that is known
+-- a call of `count` as the checker reads it: the argument (the program), the answer, what is lent at exit, and all that is known
 -- of them: the contract
 pub record CountCall : Type 1 where
-  pub κs : Lfts 1
+  pub κs : Lfts 2
   pub arguments : ArgsD count.signature κs
   pub answer : ResD count.signature κs
-  pub left : AtExit (ended_of 1 count-kinds.ps count-kinds.r) κs
+  pub left : AtExit (ended_of 2 count-kinds.ps count-kinds.r) κs
   pub contract : count-reads.Post κs arguments answer left
 
 -- the page and the platform that it was handed
 abbrev pub count_page : CountCall → List ℕ
-count_page c = c.arguments.0.now
+count_page c = c.arguments.0.now.page.now
 
 abbrev pub count_platform : CountCall → Platform
-count_platform c = c.arguments.1.0
+count_platform c = c.arguments.0.now.platform
 
--- a call of `read_bundle`; its third argument is the number of the bundle
+-- a call of `read_bundle`; its second argument is the number of the bundle
 pub record ReadCall : Type 1 where
-  pub κs : Lfts 1
+  pub κs : Lfts 2
   pub arguments : ArgsD read_bundle.signature κs
   pub answer : ResD read_bundle.signature κs
-  pub left : AtExit (ended_of 1 read-kinds.ps read-kinds.r) κs
+  pub left : AtExit (ended_of 2 read-kinds.ps read-kinds.r) κs
   pub contract : read-reads.Post κs arguments answer left
 
 abbrev pub read_program : ReadCall → Program
-read_program c = program_of c.arguments.0.now c.arguments.1.0
+read_program c = seen_program c.arguments.0.now
 
 -- of the code's calls
 pub record CallsMeetDemand2 : Type 1 where
   pub counted : (c : CountCall) → Counts (program_of (count_page c) (count_platform c)) (seen_count c.answer)
-  pub read : (c : ReadCall) → Reads (read_program c) c.arguments.1.1.0 (seen_read c.answer)
+  pub read : (c : ReadCall) → Reads (read_program c) c.arguments.1.0 (seen_read c.answer)

@@ -7,7 +7,7 @@ use Rattle.std.specs.Prelude.{true, ◌≡◌, length}
 use Rattle.page.specs.Page.{page_fits}
 use Rattle.isa.specs.Profiles.{is_known}
 use Rattle.window.specs.Windows.{window_fits}
-use Rattle.platform.specs.Programs.{Setting, program_of, setting_of}
+use Rattle.platform.specs.Programs.{Setting, seen_setting}
 use Rattle.state.specs.Validation.{external_fits}
 use Rattle.plain.specs.PlainMachine.{Result}
 use Rattle.series.specs.Machine.{Handed, Kind, Machine, machine_of}
@@ -48,8 +48,8 @@ lone_page = record {
 
 -- ---- the code's calls
 
--- a call of `run` or `step` as the checker reads it: the arguments (page, platform, RAM, external data, window, record and, for
--- `run`, the budget), the answer, what is lent at exit, and all that is known of them: the contract
+-- a call of `run` or `step` as the checker reads it: the arguments (setting, RAM, record and, for `run`, the budget), the answer, what is
+-- lent at exit, and all that is known of them: the contract
 pub data CodeCall : Type 0 where
   of_run : (κs : Lfts 3) (a : ArgsD run.signature κs) (x : ResD run.signature κs) (s : AtExit (ended_of 3 run-kinds.ps run-kinds.r) κs)
       → run-reads.Post κs a x s → CodeCall
@@ -57,22 +57,12 @@ pub data CodeCall : Type 0 where
       → step-reads.Post κs a x s → CodeCall
 
 abbrev pub handed_to : CodeCall → Handed Setting
-handed_to (of_run κs a x s contract) = record {
-  setting = setting_of (program_of a.0.now a.1.0) a.1.1.1.0.now a.1.1.1.1.0;
-  budget = a.1.1.1.1.1.1.0;
-  rec = a.1.1.1.1.1.0;
-  ram = a.1.1.0.now;
-}
-handed_to (of_step κs a x s contract) = record {
-  setting = setting_of (program_of a.0.now a.1.0) a.1.1.1.0.now a.1.1.1.1.0;
-  budget = 1;
-  rec = a.1.1.1.1.1.0;
-  ram = a.1.1.0.now;
-}
+handed_to (of_run κs a x s contract) = record { setting = seen_setting a.0.now; budget = a.1.1.1.0; rec = a.1.1.0; ram = a.1.0.now }
+handed_to (of_step κs a x s contract) = record { setting = seen_setting a.0.now; budget = 1; rec = a.1.1.0; ram = a.1.0.now }
 
 abbrev pub gave_by : CodeCall → Result
-gave_by (of_run κs a x s contract) = seen x s.1.1.0.now
-gave_by (of_step κs a x s contract) = seen x s.1.1.0.now
+gave_by (of_run κs a x s contract) = seen x s.1.0.now
+gave_by (of_step κs a x s contract) = seen x s.1.0.now
 
 -- the machine with the code's own calls
 abbrev pub machine : Setting → Machine

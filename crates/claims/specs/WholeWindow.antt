@@ -1,5 +1,5 @@
 -- With all of RAM as its window every answer without windows holds: what is claimed.
-use Rattle.std.specs.Prelude.{ℕ, true, cond, List, [], ◌∷◌, ◌++◌, ◌≡◌, length}
+use Rattle.std.specs.Prelude.{ℕ, true, cond, List, [], ◌∷◌, ◌++◌, ◌≡◌, length, Ok, Err}
 use Rattle.refusal.specs.Refusals.{decision}
 use Rattle.endian.specs.LittleEndian.{width_of, load_le, store_le}
 use Rattle.endian.specs.declared.Size.{Size}
@@ -8,10 +8,6 @@ use Rattle.platform.specs.Programs.{program_rules, Setting, setting_of}
 use Rattle.memory.specs.Memory.{inside_ram, ram_loaded, ram_stored, ram_after}
 use Rattle.memory.specs.declared.Fault.{Fault}
 use Rattle.memory.specs.declared.Fault.TheVariants.{OutsideWindow}
-use Rattle.memory.specs.declared.Loaded.TheVariants.{Value}
-use Rattle.memory.specs.declared.Loaded.TheVariants as loaded
-use Rattle.memory.specs.declared.Attempt.TheVariants.{Done}
-use Rattle.memory.specs.declared.Attempt.TheVariants as attempt
 use Rattle.state.specs.Validation.{external_rule}
 use Rattle.state.specs.declared.Record.{Record}
 use Rattle.stop.specs.Stops.{fault}
@@ -28,8 +24,8 @@ unwindowed setting = setting_of setting.program setting.external whole_ram
 pub record WholeWindow : Type 0 where
   -- the definitions that look at a window are then the build paper's: reads and writes are tested by RAM's length alone
   pub loads : (ram : List ℕ) (at : ℕ) (size : Size) (past : Fault)
-      → ram_loaded whole_ram ram at size past ≡ cond (inside_ram at (width_of size)) (Value (load_le (width_of size) ram at)) (loaded.Fails past)
-  pub stores : (at : ℕ) (size : Size) (past : Fault) → ram_stored whole_ram at size past ≡ cond (inside_ram at (width_of size)) Done (attempt.Fails past)
+      → ram_loaded whole_ram ram at size past ≡ cond (inside_ram at (width_of size)) (Ok (load_le (width_of size) ram at)) (Err past)
+  pub stores : (at : ℕ) (size : Size) (past : Fault) → ram_stored whole_ram at size past ≡ cond (inside_ram at (width_of size)) (Ok tt) (Err past)
   pub after : (ram : List ℕ) (at : ℕ) (size : Size) (past : Fault) (x : ℕ)
       → ram_after whole_ram ram at size past x ≡ cond (inside_ram at (width_of size)) (store_le (width_of size) ram at x) ram
   -- nor is a call refused by 20

@@ -1,6 +1,6 @@
 -- What a data-processing instruction writes, by its encoding, as the manual has it: an operation on values gives a value and flags,
 -- and the encoding says which registers the operands are and where the value goes.
-use Rattle.std.specs.Prelude.{ℕ, ◌+◌, ◌*◌, ◌%◌, ◌^◌, List, bit_and, bit_or, bit_xor}
+use Rattle.std.specs.Prelude.{ℕ, ◌+◌, ◌*◌, ◌%◌, ◌^◌, List, Some, None, bit_and, bit_or, bit_xor}
 use Rattle.bits.specs.Fields.{bits}
 use Rattle.isa.specs.declared.Operation.{Operation}
 use Rattle.isa.specs.declared.Operation.TheVariants.{LslImm, LsrImm, AsrImm, AddReg, SubReg, AddImm3, SubImm3, MovImm, CmpImm, AddImm, SubImm, And, Eor, LslReg, LsrReg, AsrReg, Adc, Sbc, RorReg, Tst, Rsb, CmpReg, Cmn, Orr, Mul, Bic, Mvn, MovReg, AddSp, Sxth, Sxtb, Uxth, Uxtb, Nop, Movw, Movt, Sdiv, Udiv}
@@ -11,23 +11,22 @@ use Rattle.arm.specs.declared.Flags.{Flags}
 use Rattle.alu.specs.Operations.{mov, lsl, lsr, asr, ror, add, sub, adc, sbc, rsb}
 use Rattle.alu.specs.declared.Valued.{Valued}
 use Rattle.state.specs.Record.{register_in}
-use Rattle.writing.specs.declared.Write.TheVariants.{NoRegister, Register}
 use Rattle.compute.specs.declared.Computed.{Computed}
 
 -- the value goes to register d, and the flags are set
 abbrev pub to : ℕ → Valued → Computed
-to d v = record { register = Register d v.value; flags = v.flags }
+to d v = record { register = Some (d, v.value); flags = v.flags }
 
 -- the flags are set, and the value goes nowhere
 abbrev pub flags_only : Valued → Computed
-flags_only v = record { register = NoRegister; flags = v.flags }
+flags_only v = record { register = None; flags = v.flags }
 
 -- a value goes to register d, and the flags stay
 abbrev pub moved : ℕ → ℕ → Flags → Computed
-moved d x f = record { register = Register d x; flags = f }
+moved d x f = record { register = Some (d, x); flags = f }
 
 abbrev pub unchanged : Flags → Computed
-unchanged f = record { register = NoRegister; flags = f }
+unchanged f = record { register = None; flags = f }
 
 -- the amount of a shift by a register
 abbrev pub low_byte : ℕ → ℕ

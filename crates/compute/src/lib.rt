@@ -10,12 +10,12 @@ use arm::Flags;
 use isa::Operation;
 use std::num::wrapping_add_u32;
 use words::immediate_amount;
-use writing::Write;
 
 // One register at most, and the flags.
 #[derive(Clone, Copy)]
 pub struct Computed {
-    pub register: Write,
+    // the number of a register and its value
+    pub register: Option<(u8, u32)>,
     pub flags: Flags,
 }
 
@@ -23,10 +23,9 @@ pub struct Computed {
 fn to(d: u8, v: Valued) -> Computed
     ensures { result ≡ definitions.to d v }
 {
-    let flags = v.flags;
     Computed {
-        register: Write::Register(d, v.value),
-        flags,
+        register: Some((d, v.value)),
+        flags: v.flags,
     }
 }
 
@@ -34,10 +33,9 @@ fn to(d: u8, v: Valued) -> Computed
 fn flags_only(v: Valued) -> Computed
     ensures { result ≡ definitions.flags_only v }
 {
-    let flags = v.flags;
     Computed {
-        register: Write::NoRegister,
-        flags,
+        register: None,
+        flags: v.flags,
     }
 }
 
@@ -46,7 +44,7 @@ fn moved(d: u8, x: u32, f: Flags) -> Computed
     ensures { result ≡ definitions.moved d x f }
 {
     Computed {
-        register: Write::Register(d, x),
+        register: Some((d, x)),
         flags: f,
     }
 }
@@ -55,7 +53,7 @@ fn unchanged(f: Flags) -> Computed
     ensures { result ≡ definitions.unchanged f }
 {
     Computed {
-        register: Write::NoRegister,
+        register: None,
         flags: f,
     }
 }

@@ -1,11 +1,12 @@
 -- The count: the greatest closed prefix of the page's bundles.
-use Rattle.std.specs.Prelude.{ℕ}
+use Rattle.std.specs.Prelude.{ℕ, Result}
+use Rattle.std.specs.Result.{result_unwrap_or}
+use Rattle.refusal.specs.declared.Refusal.{Refusal}
 use Rattle.refusal.specs.Refusals.{Decision, decision, when_accepted, decision_of}
 use Rattle.page.specs.Page.{bundles_in}
 use Rattle.platform.specs.Programs.{Program, program_rules}
 use Rattle.prefix.specs.Prefix.{greatest_closed}
 use Rattle.bundle.specs.Successors.{successors_of}
-use Rattle.count.specs.declared.Counted.{Counted}
 
 -- the build paper's count
 abbrev pub count_of : Program → ℕ
@@ -24,5 +25,5 @@ count_program program = record {
 }
 
 -- the code's answer, by the build paper's numbers and values
-abbrev pub seen_count : Counted → CountAnswer
-seen_count c = record { decision = decision_of c.verdict; count = c.count }
+abbrev pub seen_count : Result ℕ Refusal → CountAnswer
+seen_count a = record { decision = decision_of a; count = result_unwrap_or a 0 }

@@ -2,37 +2,20 @@
 #![tactic(auto)]
 
 ghost use Rattle.std.specs.Prelude.{◌≡◌};
-ghost use Rattle.platform.specs.Programs.{program_of};
+ghost use Rattle.platform.specs.Programs.{seen_program};
 ghost use Rattle.count.specs.Count.{count_program, seen_count};
 
-use platform::Platform;
-use refusal::Verdict;
+use platform::Program;
+use refusal::Refusal;
 
-#[derive(Clone, Copy)]
-pub struct Counted {
-    pub verdict: Verdict,
-    pub count: u32,
-}
-
-pub fn count(page: &[u8], platform: Platform) -> Counted
-    ensures { seen_count result ≡ count_program (program_of page.now platform) }
+pub fn count(program: &Program) -> Result<u32, Refusal>
+    ensures { seen_count result ≡ count_program (seen_program program.now) }
 {
-    if let Verdict::Refused(why) = platform::of_program(page, platform) {
-        return Counted {
-            verdict: Verdict::Refused(why),
-            count: 0,
-        };
+    platform::of_program(program)?;
+    let bundles = (program.page.len() / 4) as u32;
+    let mut bound = bundles;
+    for k in (0..bundles).rev() {
+        bound = prefix::bound_after(bound, bundle::read_bundle(program, k)?, k);
     }
-    let mut k = (page.len() / 4) as u32;
-    let mut bound = k;
-    while 0 < k {
-        k -= 1;
-        let read = bundle::read_bundle(page, platform, k);
-        let largest = read.largest;
-        bound = prefix::bound_after(bound, largest, k);
-    }
-    Counted {
-        verdict: Verdict::Accepted,
-        count: bound,
-    }
+    Ok(bound)
 }

@@ -1,8 +1,8 @@
 // The answers of the library's calls in numbers, as C has them.
 #![tactic(auto)]
 
-ghost use Rattle.std.specs.Prelude.{◌≡◌, get_or};
-ghost use Rattle.refusal.specs.Refusals.{carried_values, decision_of};
+ghost use Rattle.std.specs.Prelude.{◌≡◌};
+ghost use Rattle.refusal.specs.Refusals.{decision_of};
 ghost use Rattle.prefix.specs.LargestSuccessor.{reading_of};
 ghost use Rattle.stop.specs.Stops.{reason_of};
 ghost use Rattle.crossing.specs.Exits.{bare_exit, exit_to, exit_with, exit_numbers, decoded_exit};
@@ -11,10 +11,11 @@ ghost use Rattle.crossing.specs.Numbers.{stopped_with, refused_with, stop_number
 
 use literal::Service;
 use prefix::LargestSuccessor;
-use refusal::{Carried, Verdict};
+use refusal::Refusal;
 use stop::Stop;
 
-// A stop: 0 or a refusal's number, the kind, what the kind carries, and the position that a refusal carries.
+// A stop, in numbers since C takes it so: 0 or a refusal's number, the kind, what the kind carries, and the position that a refusal
+// carries.
 #[derive(Clone, Copy)]
 pub struct StopNumbers {
     pub code: u32,
@@ -34,36 +35,30 @@ pub struct ExitNumbers {
     pub words: u32,
 }
 
-pub fn code_of(verdict: Verdict) -> u32
-    ensures { result ≡ code_of (decision_of verdict) }
+// 0 for what is accepted, else the refusal's number.
+pub fn code_of<T: Copy>(answer: Result<T, Refusal>) -> u32
+    ensures { result ≡ code_of (decision_of answer) }
 {
-    match verdict {
-        Verdict::Accepted => 0,
-        Verdict::Refused(why) => refusal::number(why) as u32,
+    match answer {
+        Ok(_) => 0,
+        Err(why) => u32::from(u8::from(why)),
     }
 }
 
 // Where nothing is carried.
 const NO_POSITION: u32 = 0;
 
-fn carried_position(carried: Carried) -> u32
-    ensures { result ≡ get_or (carried_values carried) 0 0 }
+// The position that a refusal carries.
+pub fn position_of<T: Copy>(answer: Result<T, Refusal>) -> u32
+    ensures { result ≡ position_of (decision_of answer) }
 {
-    match carried {
-        Carried::Nothing => NO_POSITION,
-        Carried::Position(position) => position,
+    match answer {
+        Ok(_) => NO_POSITION,
+        Err(why) => refusal::carries(why).unwrap_or(NO_POSITION),
     }
 }
 
-pub fn position_of(verdict: Verdict) -> u32
-    ensures { result ≡ position_of (decision_of verdict) }
-{
-    match verdict {
-        Verdict::Accepted => NO_POSITION,
-        Verdict::Refused(why) => carried_position(refusal::carries(why)),
-    }
-}
-
+// 0 bad, 1 none, 2 a largest one: numbers, as the C interface has them.
 pub fn largest_kind(successor: LargestSuccessor) -> u32
     ensures { result ≡ largest_kind (reading_of successor) }
 {
@@ -78,8 +73,7 @@ pub fn largest_number(successor: LargestSuccessor) -> u32
     ensures { result ≡ largest_number (reading_of successor) }
 {
     match successor {
-        LargestSuccessor::Bad => 0,
-        LargestSuccessor::Nothing => 0,
+        LargestSuccessor::Bad | LargestSuccessor::Nothing => 0,
         LargestSuccessor::Largest(s) => s,
     }
 }
@@ -99,7 +93,7 @@ fn stopped_with(kind: u32, value: u32, literal: u32) -> StopNumbers
 }
 
 // What a verdict refuses.
-pub fn refused_with(verdict: Verdict) -> StopNumbers
+pub fn refused_with(verdict: Result<(), Refusal>) -> StopNumbers
     ensures { result ≡ refused_with (decision_of verdict) }
 {
     let number = code_of(verdict);
@@ -113,16 +107,18 @@ pub fn refused_with(verdict: Verdict) -> StopNumbers
 }
 
 // A stop in numbers.
-pub fn numbers_of(stop: Stop) -> StopNumbers
-    ensures { result ≡ stop_numbers (reason_of stop) }
-{
-    match stop {
-        Stop::Budget => stopped_with(0, 0, 0),
-        Stop::Service(n) => stopped_with(1, n as u32, 0),
-        Stop::ServiceBy(n, literal) => stopped_with(2, n as u32, literal),
-        Stop::Fault(fault) => stopped_with(3, memory::fault_number(fault) as u32, 0),
-        Stop::Unlisted => stopped_with(4, 0, 0),
-        Stop::Refused(why) => refused_with(Verdict::Refused(why)),
+impl From<Stop> for StopNumbers {
+    ghost from_gives = { λ stop numbers. numbers ≡ stop_numbers (reason_of stop) };
+
+    fn from(stop: Stop) -> StopNumbers {
+        match stop {
+            Stop::Budget => stopped_with(0, 0, 0),
+            Stop::Service(n) => stopped_with(1, u32::from(n), 0),
+            Stop::ServiceBy(n, literal) => stopped_with(2, u32::from(n), literal),
+            Stop::Fault(fault) => stopped_with(3, u32::from(u8::from(fault)), 0),
+            Stop::Unlisted => stopped_with(4, 0, 0),
+            Stop::Refused(why) => refused_with(Err(why)),
+        }
     }
 }
 
@@ -175,27 +171,38 @@ fn exit_with(kind: u32, number: u32, immediate: u32) -> ExitNumbers
     }
 }
 
-fn exit_numbers(service: Service) -> ExitNumbers
-    ensures { result ≡ exit_numbers service }
-{
-    match service {
-        Service::Return => bare_exit(1),
-        Service::Call(address, words) => exit_to(2, address, words as u32),
-        Service::TailCall(address, words) => exit_to(3, address, words as u32),
-        Service::Syscall(number, immediate) => exit_with(4, number as u32, immediate as u32),
-        Service::TailSyscall(number, immediate) => exit_with(5, number as u32, immediate as u32),
-        Service::LongBranch(address) => exit_to(6, address, 0),
-        Service::Preload => bare_exit(0),
-        Service::SetBase(_) => bare_exit(0),
-        Service::StoreAtSp(_, _) => bare_exit(0),
-        Service::LoadAtSp(_, _) => bare_exit(0),
-        Service::LowerSp(_) => bare_exit(0),
-        Service::DirectSyscall(number) => exit_with(7, number as u32, 0),
-        Service::Validate(_) => bare_exit(0),
-        Service::Breakpoint => bare_exit(8),
-        Service::CallRegister(register) => exit_with(9, register as u32, 0),
-        Service::TailCallRegister(register) => exit_with(10, register as u32, 0),
-        Service::Bad => bare_exit(0),
+// What a service asks of the host; the others are no exits.
+impl From<Service> for ExitNumbers {
+    ghost from_gives = { λ service numbers. numbers ≡ exit_numbers service };
+
+    fn from(service: Service) -> ExitNumbers {
+        match service {
+            Service::Return => bare_exit(1),
+            Service::Call(address, words) => exit_to(2, address, u32::from(words)),
+            Service::TailCall(address, words) => exit_to(3, address, u32::from(words)),
+            Service::Syscall(number, immediate) => exit_with(
+                4,
+                u32::from(number),
+                u32::from(immediate),
+            ),
+            Service::TailSyscall(number, immediate) => exit_with(
+                5,
+                u32::from(number),
+                u32::from(immediate),
+            ),
+            Service::LongBranch(address) => exit_to(6, address, 0),
+            Service::DirectSyscall(number) => exit_with(7, u32::from(number), 0),
+            Service::Breakpoint => bare_exit(8),
+            Service::CallRegister(register) => exit_with(9, u32::from(register), 0),
+            Service::TailCallRegister(register) => exit_with(10, u32::from(register), 0),
+            Service::Preload
+            | Service::SetBase(_)
+            | Service::StoreAtSp(_, _)
+            | Service::LoadAtSp(_, _)
+            | Service::LowerSp(_)
+            | Service::Validate(_)
+            | Service::Bad => bare_exit(0),
+        }
     }
 }
 
@@ -206,5 +213,5 @@ pub fn decoded_exit(low: u32, literal: u32) -> ExitNumbers
     if low > 0xFF {
         return bare_exit(0);
     }
-    exit_numbers(service::by_low_byte(low as u8, literal::literal(literal)))
+    ExitNumbers::from(service::by_low_byte(low as u8, literal::literal(literal)))
 }

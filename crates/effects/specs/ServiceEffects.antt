@@ -1,17 +1,17 @@
 -- Services: what each does to registers, SP, base and RAM.
-use Rattle.std.specs.Prelude.{ℕ, ◌+◌, ◌-◌, ◌*◌, cond, List, ltb}
+use Rattle.std.specs.Prelude.{ℕ, ◌+◌, ◌-◌, ◌*◌, cond, List, ltb, Result, Ok, Err}
 use Rattle.literal.specs.declared.Service.{Service}
 use Rattle.literal.specs.declared.Service.TheVariants.{Return, Call, TailCall, Syscall, TailSyscall, LongBranch, Preload, SetBase, StoreAtSp, LoadAtSp, LowerSp, DirectSyscall, Validate, Breakpoint, CallRegister, TailCallRegister, Bad}
 use Rattle.window.specs.declared.Window.{Window}
+use Rattle.memory.specs.declared.Fault.{Fault}
 use Rattle.memory.specs.declared.Fault.TheVariants.{LowStack}
 use Rattle.state.specs.Record.{register}
 use Rattle.writing.specs.Writes.{writes_nothing, writing_sp, writing_base}
 use Rattle.state.specs.Validation.{validated}
 use Rattle.state.specs.declared.Base.TheVariants.{Nothing}
 use Rattle.state.specs.declared.Record.{Record}
+use Rattle.writing.specs.declared.Writes.{Writes}
 use Rattle.access.specs.Outcomes.{Outcome, does, fails}
-use Rattle.access.specs.declared.Did.{Did}
-use Rattle.access.specs.declared.Did.TheVariants as did
 use Rattle.access.specs.LoadsAndStores.{load_at, store_at}
 
 -- the base is none afterwards
@@ -49,6 +49,6 @@ service_does external window Bad r ram = leaves_none (does (writes_nothing r) ra
 
 -- ---- what the code gives back where the base is none afterwards
 
-unfoldable pub none_did : Did → Did
-none_did (did.Writes w) = did.Writes (writing_base w Nothing)
-none_did (did.Fails fault) = did.Fails fault
+unfoldable pub none_did : Result Writes Fault → Result Writes Fault
+none_did (Ok w) = Ok (writing_base w Nothing)
+none_did (Err fault) = Err fault

@@ -6,77 +6,81 @@ ghost use Rattle.access.specs.Outcomes.{does, Does, DoesAny};
 ghost use Rattle.writing.specs.Writes.{writes_nothing};
 ghost use Rattle.effects.specs.ServiceEffects.{none_did, leaves_none, lower_sp, set_base, service_does};
 
-use access::Did;
 use literal::Service;
 use memory::Fault;
 use state::{Base, Record};
 use window::Window;
+use writing::Writes;
 
 // The base is none, unless a fault was met.
-fn leave_none(d: Did) -> Did
+#[tactic(auto, unfolding(crate::specs::ServiceEffects::none_did))]
+fn leave_none(d: Result<Writes, Fault>) -> Result<Writes, Fault>
     ensures { result ≡ none_did d }
 {
-    match d {
-        Did::Writes(w) => Did::Writes(writing::writing_base(w, Base::Nothing)),
-        Did::Fails(fault) => Did::Fails(fault),
-    }
+    Ok(writing::writing_base(d?, Base::Nothing))
 }
 
-fn lower_sp(r: Record, words: u32) -> Did
+#[tactic(auto, unfolding(crate::specs::ServiceEffects::lower_sp, access::specs::Outcomes::did_of))]
+fn lower_sp(r: Record, words: u32) -> Result<Writes, Fault>
     ensures { DoesAny (λ m. lower_sp r m words) result }
 {
     let sp = r.sp as usize;
     let bytes = 4 * (words as usize);
     if sp < 0x10000 + bytes {
-        Did::Fails(Fault::LowStack)
+        Err(Fault::LowStack)
     } else {
-        Did::Writes(writing::writing_sp(writing::writes_nothing(r), (sp - bytes) as u32))
+        Ok(writing::writing_sp(writing::writes_nothing(r), (sp - bytes) as u32))
     }
 }
 
 // Nothing but the base rule.
-fn base_rule(r: Record) -> Did
+#[tactic(auto, unfolding(crate::specs::ServiceEffects::leaves_none, access::specs::Outcomes::did_of))]
+fn base_rule(r: Record) -> Result<Writes, Fault>
     ensures { DoesAny (λ m. leaves_none (does (writes_nothing r) m)) result }
 {
-    Did::Writes(writing::writing_base(writing::writes_nothing(r), Base::Nothing))
+    Ok(writing::writing_base(writing::writes_nothing(r), Base::Nothing))
 }
 
-fn set_base_to(r: Record, v: u32, external: &[u8]) -> Did
+#[tactic(auto, unfolding(access::specs::Outcomes::did_of))]
+fn set_base_to(r: Record, v: u32, external: &[u8]) -> Result<Writes, Fault>
     ensures { DoesAny (λ m. set_base r m v (length external.now)) result }
 {
-    Did::Writes(writing::writing_base(
+    Ok(writing::writing_base(
         writing::writes_nothing(r),
         state::base_of(v, external.len()),
     ))
 }
 
-pub fn serve(external: &[u8], window: Window, s: Service, r: Record, ram: &mut [u8]) -> Did
+#[tactic(auto, using(crate::proofs::Laws::none_did_lem, crate::proofs::Laws::none_ram), unfolding(crate::specs::ServiceEffects::service_does, crate::specs::ServiceEffects::leaves_none, access::specs::Outcomes::outcome_ram))]
+pub fn serve(
+    external: &[u8],
+    window: Window,
+    s: Service,
+    r: Record,
+    ram: &mut [u8],
+) -> Result<Writes, Fault>
     ensures { Does ram.old (service_does (length external.now) window s r ram.old) result ram.new }
 {
     let sp = r.sp as usize;
     match s {
-        Service::Return => base_rule(r),
-        Service::Call(_, _) => base_rule(r),
-        Service::TailCall(_, _) => base_rule(r),
-        Service::Syscall(_, _) => base_rule(r),
-        Service::TailSyscall(_, _) => base_rule(r),
-        Service::LongBranch(_) => base_rule(r),
-        Service::Preload => base_rule(r),
         Service::SetBase(a) => set_base_to(r, a, external),
-        Service::StoreAtSp(t, a) => leave_none(access::store_at(
-            r,
-            window,
-            ram,
-            t,
-            sp + a as usize,
-        )),
+        Service::Validate(n) => set_base_to(r, state::register_of(r, n), external),
+        Service::StoreAtSp(t, a) => {
+            leave_none(access::store_at(r, window, ram, t, sp + a as usize))
+        }
         Service::LoadAtSp(t, a) => leave_none(access::load_at(r, window, ram, t, sp + a as usize)),
         Service::LowerSp(words) => leave_none(lower_sp(r, words)),
-        Service::DirectSyscall(_) => base_rule(r),
-        Service::Validate(n) => set_base_to(r, state::register_of(r, n), external),
-        Service::Breakpoint => base_rule(r),
-        Service::CallRegister(_) => base_rule(r),
-        Service::TailCallRegister(_) => base_rule(r),
-        Service::Bad => base_rule(r),
+        Service::Return
+        | Service::Call(_, _)
+        | Service::TailCall(_, _)
+        | Service::Syscall(_, _)
+        | Service::TailSyscall(_, _)
+        | Service::LongBranch(_)
+        | Service::Preload
+        | Service::DirectSyscall(_)
+        | Service::Breakpoint
+        | Service::CallRegister(_)
+        | Service::TailCallRegister(_)
+        | Service::Bad => base_rule(r),
     }
 }

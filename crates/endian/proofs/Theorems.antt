@@ -20,7 +20,7 @@ pub length_store : (size : ℕ) (bytes : List ℕ) (at x : ℕ) → length (stor
 length_store zero bytes at x = refl
 length_store (suc size) bytes at x = rw (length_store size, length-set)
 
--- ---- loops over the bytes: one byte more, the start and the end
+-- ---- one byte more
 
 -- from the highest down
 pub load_step : (size i at : ℕ) (bytes : List ℕ) → 0 < i → i ≤ size
@@ -30,15 +30,6 @@ load_step size i at bytes p l =
     let f : at + (i - 1) + 1 ≡ at + i = omega arith in
     rw (e, f) (omega arith)
 
-pub load_start : (size at : ℕ) (bytes : List ℕ) → 0 ≡ load_le (size - size) bytes at
-load_start size at bytes = let e : size - size ≡ 0 = omega arith in rw e
-
-pub load_end : (size i at : ℕ) (bytes : List ℕ) → i ≡ 0 → load_le (size - i) bytes (at + i) ≡ load_le size bytes at
-load_end size i at bytes z =
-    let e : size - i ≡ size = omega arith in
-    let f : at + i ≡ at = omega arith in
-    rw (e, f)
-
 -- from the lowest up
 pub store_step : (size i at rest : ℕ) (bytes : List ℕ) → i < size
     → store_le (size - (i + 1)) (set bytes (at + i) (rest % 256)) (at + (i + 1)) (rest / 256) ≡ store_le (size - i) bytes (at + i) rest
@@ -46,15 +37,6 @@ store_step size i at rest bytes l =
     let e : size - i ≡ suc (size - (i + 1)) = omega arith in
     let f : at + i + 1 ≡ at + (i + 1) = omega arith in
     rw (e, ← f)
-
-pub store_start : (size at x : ℕ) (bytes : List ℕ) → store_le (size - 0) bytes (at + 0) x ≡ store_le size bytes at x
-store_start size at x bytes =
-    let e : size - 0 ≡ size = omega arith in
-    let f : at + 0 ≡ at = omega arith in
-    rw (e, f)
-
-pub store_end : (size i at x : ℕ) (bytes : List ℕ) → size ≤ i → store_le (size - i) bytes at x ≡ bytes
-store_end size i at x bytes l = let e : size - i ≡ 0 = omega arith in rw e
 
 -- ---- sizes
 

@@ -44,9 +44,7 @@ pub fn load(bytes: &[u8], at: u32, size: Size) -> u32
 {
     let at = at as usize;
     let mut x: u32 = 0;
-    let mut i = width(size);
-    while 0 < i {
-        i -= 1;
+    for i in (0..width(size)).rev() {
         let b = byte(bytes, at + i) as u32;
         x = x * 256 + b;
     }
@@ -58,12 +56,9 @@ pub fn store(bytes: &mut [u8], at: u32, size: Size, x: u32)
     ensures { bytes.new ≡ store_le (width_of size) bytes.old at x }
 {
     let at = at as usize;
-    let n = width(size);
     let mut rest = x;
-    let mut i = 0;
-    while i < n {
-        set_byte(&mut *bytes, at + i, (rest % 256) as u8);
+    for i in 0..width(size) {
+        set_byte(bytes, at + i, (rest % 256) as u8);
         rest = rest / 256;
-        i += 1;
     }
 }

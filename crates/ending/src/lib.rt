@@ -2,11 +2,11 @@
 #![tactic(auto)]
 
 ghost use Rattle.std.specs.Prelude.{◌≡◌};
-ghost use Rattle.platform.specs.Programs.{program_of};
+ghost use Rattle.platform.specs.Programs.{seen_program};
 ghost use Rattle.ending.specs.Endings.{ending_of, last_syscall, ending_on, ending_in};
 
 use literal::Service;
-use platform::Platform;
+use platform::{Platform, Program};
 
 // How the flow goes on at a service: it just goes on; the run ends, and would go on behind it; the run ends at a
 // terminator; the service is bad.
@@ -50,23 +50,8 @@ fn is_last_syscall(platform: Platform, s: Service) -> bool
     ensures { result ≡ last_syscall platform.never_return s }
 {
     match s {
-        Service::Return => false,
-        Service::Call(_, _) => false,
-        Service::TailCall(_, _) => false,
-        Service::Syscall(_, _) => false,
-        Service::TailSyscall(_, _) => false,
-        Service::LongBranch(_) => false,
-        Service::Preload => false,
-        Service::SetBase(_) => false,
-        Service::StoreAtSp(_, _) => false,
-        Service::LoadAtSp(_, _) => false,
-        Service::LowerSp(_) => false,
         Service::DirectSyscall(n) => platform::never_returns(platform, n),
-        Service::Validate(_) => false,
-        Service::Breakpoint => false,
-        Service::CallRegister(_) => false,
-        Service::TailCallRegister(_) => false,
-        Service::Bad => false,
+        _ => false,
     }
 }
 
@@ -82,8 +67,8 @@ pub fn ending_on(platform: Platform, s: Service) -> Ending
 }
 
 // How the flow goes on at the service with the low byte n.
-pub fn ending_in(page: &[u8], platform: Platform, n: u8) -> Ending
-    ensures { result ≡ ending_in (program_of page.now platform) n }
+pub fn ending_in(program: &Program, n: u8) -> Ending
+    ensures { result ≡ ending_in (seen_program program.now) n }
 {
-    ending_on(platform, service::service_of(page, n))
+    ending_on(program.platform, service::service_of(program.page, n))
 }

@@ -1,4 +1,7 @@
 -- What the code gives back, as the effect that it stands for.
+use Rattle.memory.specs.declared.Fault.{Fault}
+use Rattle.std.specs.Prelude.{Result}
+use Rattle.std.specs.Prelude.{Option, Some, None}
 use Prim.Native.Nat.{ℕ, ◌+◌, ◌/◌, ◌≤◌}
 use native.Mathlib.Omega.{arith}
 use mathlib.Core.Bool.{Bool, true, false, cond}
@@ -9,11 +12,8 @@ use lib.ListN.{length}
 use borrow.Author.Tests.{le-ltb, ltb-false}
 use Rattle.page.specs.Page.{first_of}
 use Rattle.isa.specs.ListedEncodings.{opens32}
-use Rattle.isa.specs.declared.Operation.{Operation}
 use Rattle.isa.specs.declared.Instruction.{Instruction}
 use Rattle.isa.specs.declared.Instruction.TheVariants as instruction
-use Rattle.branch.specs.declared.Target.{Target}
-use Rattle.branch.specs.declared.Target.TheVariants as target
 use Rattle.platform.specs.Programs.{Program, program_of, setting_of}
 use Rattle.platform.specs.declared.Platform.{Platform}
 use Rattle.window.specs.declared.Window.{Window}
@@ -22,7 +22,7 @@ use Rattle.ending.specs.Endings.{ending_on}
 use Rattle.ending.specs.declared.Ending.{Ending}
 use Rattle.literal.specs.declared.Service.{Service}
 use Rattle.state.specs.declared.Record.{Record}
-use Rattle.access.specs.declared.Did.{Did}
+use Rattle.writing.specs.declared.Writes.{Writes}
 use Rattle.access.specs.Outcomes.{Outcome, does, fails, did_of, Does}
 use Rattle.access.specs.Outcomes as outcomes
 use Rattle.effects.specs.ServiceEffects.{service_does}
@@ -30,7 +30,7 @@ use Rattle.stop.specs.Stops.{Exit}
 use Rattle.plain.specs.PlainMachine.{Effect, goes_on, exits}
 use Rattle.place.specs.Places.{instruction_at, following}
 use Rattle.instruction.specs.Instructions.{end_at, branch_to, branch_if, exit_of, served_by, served}
-use Rattle.execution.specs.Executed.{exit_end, Ended, executed_of, effect_ram, ended_by, NotData, not_data, executable}
+use Rattle.execution.specs.Executed.{exit_end, executed_of, effect_ram, ended_by, NotData, not_data, executable}
 use Rattle.execution.specs.declared.End.{End}
 use Rattle.execution.specs.declared.End.TheVariants.{GoesOn}
 
@@ -49,7 +49,7 @@ exits_so exit r s ram after = (refl, refl)
 
 -- done as an outcome says, and it ends so at a place
 pub ends : (end : End) (effect : Record → List ℕ → Effect) → Ends end effect
-    → (r : Record) (ram after : List ℕ) (place : ℕ) (o : Outcome) (d : Did)
+    → (r : Record) (ram after : List ℕ) (place : ℕ) (o : Outcome) (d : Result Writes Fault)
     → Does ram o d after
     → (ended_by end r place d ≡ executed_of r (end_at effect r place o)) × (after ≡ effect_ram ram (end_at effect r place o))
 unfolding ended_by executed_of effect_ram end_at did_of outcomes.outcome_ram
@@ -57,20 +57,15 @@ ends end effect e r ram after place (does w m) d h = rw (h.0, h.1) (e r _ ram m)
 ends end effect e r ram after place (fails f) d h = rw (h.0, h.1) (refl, refl)
 
 -- a branch changes no RAM
-pub branch_ram : (r : Record) (ram : List ℕ) (t : Target) → ram ≡ effect_ram ram (branch_to r ram t)
+pub branch_ram : (r : Record) (ram : List ℕ) (t : Option ℕ) → ram ≡ effect_ram ram (branch_to r ram t)
 unfolding branch_to effect_ram
-branch_ram r ram target.Bad = refl
-branch_ram r ram (target.At b) = refl
+branch_ram r ram None = refl
+branch_ram r ram (Some b) = refl
 
-pub branch_if_ram : (taken : Bool) (r : Record) (ram : List ℕ) (next : ℕ) (t : Target) → ram ≡ effect_ram ram (branch_if taken r ram next t)
+pub branch_if_ram : (taken : Bool) (r : Record) (ram : List ℕ) (next : ℕ) (t : Option ℕ) → ram ≡ effect_ram ram (branch_if taken r ram next t)
 unfolding branch_if effect_ram
 branch_if_ram true r ram next t = branch_ram r ram t
 branch_if_ram false r ram next t = refl
-
-pub branching : (r : Record) (ram : List ℕ) (taken held : Bool) (next : ℕ) (t to : Target) (x : Ended)
-    → taken ≡ held → t ≡ to
-    → x ≡ executed_of r (branch_if taken r ram next t) → x ≡ executed_of r (branch_if held r ram next to)
-branching r ram taken held next t to x p s h = rw (← p, ← s) h
 
 -- a service, by its meaning and its ending
 pub serving : (page : List ℕ) (platform : Platform) (external : List ℕ) (window : Window) (r : Record) (ram : List ℕ) (n : ℕ) (s : Service) (e : Ending)

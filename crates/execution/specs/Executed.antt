@@ -1,12 +1,12 @@
 -- What the code gives back for an instruction: how it ended, and what it writes.
-use Rattle.std.specs.Prelude.{ℕ, List, ◌≡◌, cond, ltb}
+use Rattle.std.specs.Prelude.{ℕ, List, ◌≡◌, cond, ltb, Result, Ok, Err}
 use Rattle.isa.specs.declared.Operation.{Operation}
 use Rattle.isa.specs.declared.Instruction.{Instruction}
 use Rattle.isa.specs.declared.Instruction.TheVariants as instruction
+use Rattle.memory.specs.declared.Fault.{Fault}
 use Rattle.writing.specs.Writes.{applied}
+use Rattle.writing.specs.declared.Writes.{Writes}
 use Rattle.state.specs.declared.Record.{Record}
-use Rattle.access.specs.declared.Did.{Did}
-use Rattle.access.specs.declared.Did.TheVariants as did
 use Rattle.stop.specs.Stops.{Exit, direct, by_literal}
 use Rattle.plain.specs.PlainMachine.{Effect, goes_on, exits, faults, unlisted}
 use Rattle.execution.specs.declared.End.{End}
@@ -46,9 +46,9 @@ abbrev pub ExecutesAny : Record → (List ℕ → Effect) → Executed → Type 
 ExecutesAny r e x = (ram : List ℕ) → after r x ≡ executed_of r (e ram)
 
 -- done, and it ends so at a place; or a fault was met
-unfoldable pub ended_by : End → Record → ℕ → Did → Ended
-ended_by end r place (did.Writes w) = record { end = end; rec = applied r w place }
-ended_by end r place (did.Fails fault) = record { end = Fails fault; rec = r }
+unfoldable pub ended_by : End → Record → ℕ → Result Writes Fault → Ended
+ended_by end r place (Ok w) = record { end = end; rec = applied r w place }
+ended_by end r place (Err fault) = record { end = Fails fault; rec = r }
 
 abbrev pub NotData : Instruction → Type 0
 NotData i = (operation : Operation) → i ≡ instruction.Data operation → ⊥

@@ -1,13 +1,10 @@
 -- Terminators, and how the flow goes on at an instruction, by its encoding and its place.
-use Rattle.std.specs.Prelude.{ℕ, Bool, true, false, cond, pos}
+use Rattle.std.specs.Prelude.{ℕ, Bool, true, false, cond, pos, Option, Some, None}
 use Rattle.bits.specs.Fields.{bits}
 use Rattle.bits.specs.Integers.{SInt}
 use Rattle.isa.specs.declared.Instruction.{Instruction}
 use Rattle.isa.specs.declared.Instruction.TheVariants.{Data, Memory, Cbz, Cbnz, Bcc, B, Service, Unlisted}
 use Rattle.branch.specs.Branches.{target_of}
-use Rattle.branch.specs.declared.Target.{Target}
-use Rattle.branch.specs.declared.Target.TheVariants.{At}
-use Rattle.branch.specs.declared.Target.TheVariants as target
 use Rattle.platform.specs.Programs.{Program}
 use Rattle.ending.specs.Endings.{ending_in}
 use Rattle.ending.specs.declared.Ending.{Ending}
@@ -41,9 +38,9 @@ terminator program Unlisted = false
 -- ---- where it may go beside what stands behind it
 
 -- a branch whose target is bad is bad itself
-abbrev pub jump_to : Target → Jump
-jump_to target.Bad = jump.Bad
-jump_to (At b) = JumpTo b
+abbrev pub jump_to : Option ℕ → Jump
+jump_to None = jump.Bad
+jump_to (Some b) = JumpTo b
 
 -- a service has no target
 abbrev pub service_jump : Ending → Jump

@@ -1,38 +1,25 @@
 -- Which calls are accepted, and what they then give.
 use Prim.Native.Nat.{ℕ}
-use mathlib.Core.Path.{◌≡◌, sym, ap, ◌∙◌}
+use mathlib.Core.Path.{◌≡◌, ap, ◌∙◌}
 use mathlib.Core.List.{List, [], ◌∷◌}
 use lib.Dec.{eqb}
 use lib.ListN.{length}
 use borrow.Author.Tests.{eqb-true, eq-eqb, ne_eqb}
-use Rattle.refusal.specs.Refusals.{Decision, accepted, refused, Rule, decision, when_accepted, decision_of}
-use Rattle.refusal.specs.declared.Verdict.{Verdict}
-use Rattle.refusal.specs.declared.Verdict.TheVariants.{Accepted}
+use Rattle.refusal.specs.Refusals.{Decision, accepted, refused, Rule, decision, when_accepted}
 use Rattle.refusal.proofs.Theorems.{passes_lem}
 use Rattle.state.specs.Record.{fresh_record}
 use Rattle.state.specs.declared.Record.{Record}
-use Rattle.layout.specs.StoredForm.{range_rules, record_bytes, record_in, room_with}
-use Rattle.form.specs.Storing.{length_rule, form_rules, LoadAnswer, load_record, seen_read_back}
-use Rattle.form.specs.declared.ReadBack.{ReadBack}
+use Rattle.layout.specs.StoredForm.{record_bytes, record_in}
+use Rattle.form.specs.Storing.{length_rule, form_rules, load_record}
 use Rattle.form.proofs.Ranges.{InRange}
 
 -- a table that begins with the length
 module _ (n : ℕ) (rules : List Rule) where
-  pub other_length : (n ≡ 44 → ⊥) → refused 6 [] ≡ decision (length_rule n ∷ rules)
-  other_length h = rw (ne_eqb n 44 h)
-
   -- with its length, the rest decides
   pub by_rest : n ≡ 44 → decision rules ≡ decision (length_rule n ∷ rules)
   by_rest h = rw (eq-eqb n 44 h)
 
--- in the code
-pub by_values : (vs values : List ℕ) (v w : Verdict) → vs ≡ values → decision_of v ≡ decision (range_rules vs) → v ≡ w → decision_of w ≡ decision (range_rules values)
-by_values vs values v w same e told = ap decision_of (sym told) ∙ e ∙ ap (λ (xs : List ℕ). decision (range_rules xs)) same
-
 module _ (n : ℕ) (values : List ℕ) where
-  pub decided : (vs : List ℕ) (v w : Verdict) → n ≡ 44 → vs ≡ values → decision_of v ≡ decision (range_rules vs) → v ≡ w → decision_of w ≡ decision (form_rules n values)
-  decided vs v w h same e told = by_values vs values v w same e told ∙ by_rest n (range_rules values) h
-
   pub passed : decision (form_rules n values) ≡ accepted → (n ≡ 44) × InRange values
   passed e =
       let p = passes_lem (eqb n 44) 6 [] _ e in
@@ -53,14 +40,3 @@ module _ (rules : List Rule) (s : Record) (room : List ℕ) where
   pub room_by : (d : Decision) → d ≡ decision (length_rule (length room) ∷ rules)
       → when_accepted d (record_bytes s) room ≡ when_accepted (decision (length_rule (length room) ∷ rules)) (record_bytes s) room
   room_by d e = ap (λ (w : Decision). when_accepted w (record_bytes s) room) e
-
-  module _ (m : length room ≡ 44) (a : ReadBack) (e : seen_read_back a ≡ record { decision = decision rules; loaded = when_accepted (decision rules) s fresh_record }) where
-    pub told : (v : Verdict) → a.verdict ≡ v → decision_of v ≡ decision (length_rule (length room) ∷ rules)
-    told v t = ap decision_of (sym t) ∙ ap (λ (x : LoadAnswer). x.decision) e ∙ by_rest (length room) rules m
-
-    pub put : a.verdict ≡ Accepted → room_with a.loaded room ≡ when_accepted (decision (length_rule (length room) ∷ rules)) (record_bytes s) room
-    put t =
-        let d = told Accepted t in
-        let same : a.loaded ≡ s = ap (λ (x : LoadAnswer). x.loaded) e ∙ ap (λ (w : Decision). when_accepted w s fresh_record) (by_rest (length room) rules m ∙ sym d) in
-        let written : room_with a.loaded room ≡ record_bytes a.loaded = rw (eq-eqb (length room) 44 m) in
-        written ∙ ap record_bytes same ∙ room_by accepted d

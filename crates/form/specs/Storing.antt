@@ -1,10 +1,11 @@
 -- Storing a record and reading it back: refusal 6 for the length, then 7 for the range, with the position of the field.
-use Rattle.std.specs.Prelude.{ℕ, not, List, [], ◌∷◌, eqb, length}
+use Rattle.std.specs.Prelude.{ℕ, not, List, [], ◌∷◌, eqb, length, Result}
+use Rattle.std.specs.Result.{result_unwrap_or}
 use Rattle.refusal.specs.Refusals.{Decision, Rule, rule, decision, when_accepted, decision_of}
+use Rattle.refusal.specs.declared.Refusal.{Refusal}
 use Rattle.state.specs.Record.{fresh_record}
 use Rattle.state.specs.declared.Record.{Record}
 use Rattle.layout.specs.StoredForm.{stored_form, form_length, decode, range_rules, values_of, record_bytes, record_in}
-use Rattle.form.specs.declared.ReadBack.{ReadBack}
 
 -- refusal 6, of so many bytes
 abbrev pub length_rule : ℕ → Rule
@@ -40,5 +41,5 @@ load_record bytes = record {
 }
 
 -- the code's answer, by the papers' numbers and values
-abbrev pub seen_read_back : ReadBack → LoadAnswer
-seen_read_back a = record { decision = decision_of a.verdict; loaded = a.loaded }
+abbrev pub seen_read_back : Result Record Refusal → LoadAnswer
+seen_read_back a = record { decision = decision_of a; loaded = result_unwrap_or a fresh_record }

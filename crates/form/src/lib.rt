@@ -6,19 +6,13 @@ ghost use Rattle.layout.specs.StoredForm.{offset_in_range, range_rules};
 ghost use Rattle.refusal.specs.Refusals.{decision, decision_of};
 ghost use Rattle.form.specs.Storing.{store_decision, room_after, load_record, seen_read_back};
 
-use refusal::{Refusal, Verdict};
+use refusal::Refusal;
 use state::Record;
-
-// What reading back answers.
-#[derive(Clone, Copy)]
-pub struct ReadBack {
-    pub verdict: Verdict,
-    pub loaded: Record,
-}
 
 // ---- the range
 
-fn offset_in_range(kind: u32, offset: u32) -> bool
+// An offset of a record, or one that was read and may be larger.
+pub fn offset_in_range(kind: u64, offset: u64) -> bool
     ensures { result ≡ offset_in_range kind offset }
 {
     match kind {
@@ -30,65 +24,48 @@ fn offset_in_range(kind: u32, offset: u32) -> bool
 }
 
 // The values are in range, or where the first field starts that isn't. r0 to r7 have no test.
-pub fn in_range(values: [u32; 13]) -> Verdict
+pub fn in_range(values: [u32; 13]) -> Result<(), Refusal>
     ensures { decision_of result ≡ decision (range_rules values) }
 {
     if !state::sp_fits(values[8]) {
-        return Verdict::Refused(Refusal::FormRange(32));
+        return Err(Refusal::FormRange(32));
     }
     if values[9] > 2 {
-        return Verdict::Refused(Refusal::FormRange(36));
+        return Err(Refusal::FormRange(36));
     }
-    if !offset_in_range(values[9], values[10]) {
-        return Verdict::Refused(Refusal::FormRange(37));
+    if !offset_in_range(u64::from(values[9]), u64::from(values[10])) {
+        return Err(Refusal::FormRange(37));
     }
     if values[11] > 127 {
-        return Verdict::Refused(Refusal::FormRange(41));
+        return Err(Refusal::FormRange(41));
     }
     if values[12] > 15 {
-        return Verdict::Refused(Refusal::FormRange(43));
+        return Err(Refusal::FormRange(43));
     }
-    Verdict::Accepted
+    Ok(())
 }
 
 // ---- storing and reading back
 
 // Writes a record to room of 44 bytes.
-pub fn store(r: Record, room: &mut [u8]) -> Verdict
+pub fn store(r: Record, room: &mut [u8]) -> Result<(), Refusal>
     ensures { (decision_of result ≡ store_decision r room.old) × (room.new ≡ room_after r room.old) }
 {
     if room.len() != 44 {
-        return Verdict::Refused(Refusal::FormLength);
+        return Err(Refusal::FormLength);
     }
-    let ranged = in_range(layout::values_of(r));
-    match ranged {
-        Verdict::Refused(why) => Verdict::Refused(why),
-        Verdict::Accepted => {
-            layout::write(r, &mut *room);
-            Verdict::Accepted
-        }
-    }
+    in_range(layout::values_of(r))?;
+    layout::write(r, room);
+    Ok(())
 }
 
 // Reads a record back.
-pub fn load(bytes: &[u8]) -> ReadBack
+pub fn load(bytes: &[u8]) -> Result<Record, Refusal>
     ensures { seen_read_back result ≡ load_record bytes.now }
 {
     if bytes.len() != 44 {
-        return ReadBack {
-            verdict: Verdict::Refused(Refusal::FormLength),
-            loaded: state::fresh_record(),
-        };
+        return Err(Refusal::FormLength);
     }
-    let ranged = in_range(layout::values_in(bytes));
-    match ranged {
-        Verdict::Refused(why) => ReadBack {
-            verdict: Verdict::Refused(why),
-            loaded: state::fresh_record(),
-        },
-        Verdict::Accepted => ReadBack {
-            verdict: Verdict::Accepted,
-            loaded: layout::record_in(bytes),
-        },
-    }
+    in_range(layout::values_in(bytes))?;
+    Ok(layout::record_in(bytes))
 }

@@ -5,24 +5,17 @@ ghost use Rattle.std.specs.Prelude.{◌≡◌};
 ghost use Rattle.refusal.specs.Refusals.{decision_of};
 ghost use Rattle.forming.specs.Crossing.{form_decision, form_room};
 
-use refusal::{Refusal, Verdict};
+use refusal::Refusal;
 
 // A stored form, or what is to be one, goes to the room as the record that it holds.
-pub fn formed(bytes: &[u8], room: &mut [u8]) -> Verdict
+pub fn formed(bytes: &[u8], room: &mut [u8]) -> Result<(), Refusal>
     ensures { (decision_of result ≡ form_decision bytes.now room.old)
         × (room.new ≡ form_room bytes.now room.old) }
 {
     if room.len() != 44 {
-        return Verdict::Refused(Refusal::FormLength);
+        return Err(Refusal::FormLength);
     }
-    let answer = form::load(bytes);
-    let verdict = answer.verdict;
-    let loaded = answer.loaded;
-    match verdict {
-        Verdict::Accepted => {
-            layout::write(loaded, room);
-            Verdict::Accepted
-        }
-        Verdict::Refused(why) => Verdict::Refused(why),
-    }
+    let loaded = form::load(bytes)?;
+    layout::write(loaded, room);
+    Ok(())
 }

@@ -1,12 +1,13 @@
 -- Words in RAM: one more of them, and each in its access.
-use Prim.Native.Nat.{ℕ, zero, suc, ◌+◌, ◌-◌, ◌*◌, ◌^◌, ◌<◌, ◌≤◌}
+use Rattle.std.specs.Prelude.{Ok}
+use Prim.Native.Nat.{ℕ, zero, suc, ◌+◌, ◌*◌, ◌^◌, ◌<◌, ◌≤◌}
 use native.Mathlib.Omega.{arith}
-use mathlib.Core.Bool.{true, true≢false}
+use mathlib.Core.Bool.{true}
 use mathlib.Core.List.{List, [], ◌∷◌, ◌++◌}
-use mathlib.Core.Path.{◌≡◌, refl, sym, ap, ◌∙◌}
+use mathlib.Core.Path.{◌≡◌, refl, ap, ◌∙◌}
 use lib.Dec.{leb}
-use lib.ListN.{length, get_or, set, take, drop, drop_of_length-le}
-use lib.Seq.{take-suc-set, take_all}
+use lib.ListN.{length, get_or, set, take, drop}
+use lib.Seq.{take-suc-set}
 use native.Mathlib.Numerals.{add-one}
 use borrow.Author.Tests.{le-leb, leb-true}
 use Rattle.laws.proofs.Tests.{both}
@@ -17,19 +18,10 @@ use Rattle.window.specs.Windows.{inside_window}
 use Rattle.window.specs.declared.Window.{Window}
 use Rattle.memory.specs.Memory.{ram_access, ram_loaded, ram_after}
 use Rattle.memory.specs.declared.Fault.{Fault}
-use Rattle.memory.specs.declared.Loaded.{Loaded}
-use Rattle.memory.specs.declared.Loaded.TheVariants.{Value, Fails}
-use Rattle.memory.specs.declared.Attempt.TheVariants.{Done}
 use Rattle.memory.proofs.Ram.{done}
 use Rattle.frame.specs.Frames.{store_words, load_words}
 
--- ---- one word more, the start and the end
-
-pub store_start : (ram words : List ℕ) (at : ℕ) → store_words ram (at + 4 * 0) (drop 0 words) ≡ store_words ram at words
-store_start ram words at = let e : at + 4 * 0 ≡ at = omega arith in rw e
-
-pub store_end : (ram words : List ℕ) (at i : ℕ) → length words ≤ i → ram ≡ store_words ram at (drop i words)
-store_end ram words at i l = rw (drop_of_length-le words {i = i} l)
+-- ---- one word more
 
 pub store_next : (ram words : List ℕ) (at i : ℕ) → i < length words
     → store_words (store_le 4 ram (at + 4 * i) (get_or words i 0)) (at + 4 * (i + 1)) (drop (i + 1) words) ≡ store_words ram (at + 4 * i) (drop i words)
@@ -51,11 +43,6 @@ load_next ram at (suc i) =
 pub load_one : (ram words : List ℕ) (at i x : ℕ) → i < length words → take i words ≡ load_words i ram at → x ≡ load_le 4 ram (at + 4 * i)
     → take (i + 1) (set words i x) ≡ load_words (i + 1) ram at
 load_one ram words at i x l h e = rw (add-one i, take-suc-set words i x l, h, e, load_next ram at i)
-
-pub load_end : (ram words : List ℕ) (at i : ℕ) → length words ≡ 8 → 8 ≤ i → i ≤ 8 → take i words ≡ load_words i ram at → words ≡ load_words 8 ram at
-load_end ram words at i e l u h =
-    let f : i ≡ 8 = omega arith in
-    sym (take_all i words (omega (arith, e))) ∙ h ∙ ap (λ n. load_words n ram at) f
 
 -- ---- what words keep
 
@@ -92,27 +79,19 @@ part_inside window at bytes a n e l u =
     let high = leb-true (at + bytes) window.end edges.1 in
     rw (le-leb window.start a (omega arith)) (le-leb (a + n) window.end (omega arith))
 
-pub part_done : (window : Window) (at bytes : ℕ) (past : Fault) → ram_access window at bytes past ≡ Done → (a n : ℕ) → at ≤ a → a + n ≤ at + bytes
-    → ram_access window a n past ≡ Done
+pub part_done : (window : Window) (at bytes : ℕ) (past : Fault) → ram_access window at bytes past ≡ Ok tt → (a n : ℕ) → at ≤ a → a + n ≤ at + bytes
+    → ram_access window a n past ≡ Ok tt
 unfolding ram_access
 part_done window at bytes past d a n l u =
     let tests = done window at bytes past d in
     let high = leb-true (at + bytes) 32768 tests.0 in
     rw (le-leb (a + n) 32768 (omega arith), part_inside window at bytes a n tests.1 l u)
 
-module _ (window : Window) (a : ℕ) (past : Fault) (d : ram_access window a 4 past ≡ Done) (ram : List ℕ) where
+module _ (window : Window) (a : ℕ) (past : Fault) (d : ram_access window a 4 past ≡ Ok tt) (ram : List ℕ) where
   pub word_stored : (x : ℕ) → ram_after window ram a Word past x ≡ store_le 4 ram a x
   unfolding ram_after
   word_stored x = rw d
 
-  pub word_loaded : ram_loaded window ram a Word past ≡ Value (load_le 4 ram a)
+  pub word_loaded : ram_loaded window ram a Word past ≡ Ok (load_le 4 ram a)
   unfolding ram_loaded
   word_loaded = rw d
-
--- ---- what a load came to
-
-pub of_value : (l : Loaded) (x y : ℕ) → l ≡ Value x → l ≡ Value y → x ≡ y
-of_value l x y e f = cc
-
-pub no_fault : (l : Loaded) (f : Fault) (x : ℕ) → l ≡ Fails f → l ≡ Value x → ⊥
-no_fault l f x e v = true≢false cc

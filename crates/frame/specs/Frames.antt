@@ -1,12 +1,10 @@
 -- Frames, as source document 002 lays them out on the stack: eight words between caller and callee.
-use Rattle.std.specs.Prelude.{ℕ, zero, suc, ◌+◌, ◌-◌, cond, List, [], ◌∷◌, ◌++◌, ltb, get_or, take, drop, replicate}
+use Rattle.std.specs.Prelude.{ℕ, zero, suc, ◌+◌, ◌-◌, cond, List, [], ◌∷◌, ◌++◌, ltb, get_or, take, drop, Result, Ok, Err}
 use Rattle.endian.specs.LittleEndian.{load_le, store_le}
 use Rattle.window.specs.declared.Window.{Window}
 use Rattle.memory.specs.Memory.{ram_access}
+use Rattle.memory.specs.declared.Fault.{Fault}
 use Rattle.memory.specs.declared.Fault.TheVariants.{PastStack, LowStack}
-use Rattle.memory.specs.declared.Attempt.{Attempt}
-use Rattle.memory.specs.declared.Attempt.TheVariants.{Done, Fails}
-use Rattle.frame.specs.declared.Saved.{Saved}
 
 -- ---- the words of a frame, lowest first: PC, FP, r2, r3, r4, r5, r6, r7
 
@@ -41,16 +39,14 @@ offset_of address = address - 0x10000
 
 -- one access of 32 bytes to the stack: outside the window is fault 7. Below 0x10000 is fault 5 and past 0x18000 fault 4, as for a word
 -- there; a call with a fit SP meets 9 before, and no fit FP has such a frame
-unfoldable pub frame_access : Window → ℕ → Attempt
-frame_access window address = cond (ltb address 0x10000) (Fails LowStack) (ram_access window (offset_of address) 32 PastStack)
+unfoldable pub frame_access : Window → ℕ → Result Unit Fault
+frame_access window address = cond (ltb address 0x10000) (Err LowStack) (ram_access window (offset_of address) 32 PastStack)
 
--- ---- the code's answer
+-- ---- a frame that is read: its words, or the fault that its access meets
 
--- where a fault is met, all words are 0
-abbrev pub words_if : Attempt → List ℕ → List ℕ
-words_if Done words = words
-words_if (Fails fault) words = replicate 8 0
+abbrev pub words_if : Result Unit Fault → List ℕ → Result (List ℕ) Fault
+words_if (Ok t) words = Ok words
+words_if (Err fault) words = Err fault
 
-abbrev pub saved_at : Window → List ℕ → ℕ → Saved
-saved_at window ram address =
-    record { met = frame_access window address; words = words_if (frame_access window address) (load_words 8 ram (offset_of address)) }
+abbrev pub saved_at : Window → List ℕ → ℕ → Result (List ℕ) Fault
+saved_at window ram address = words_if (frame_access window address) (load_words 8 ram (offset_of address))

@@ -10,16 +10,9 @@ use Rattle.refusal.specs.Refusals.{Decision, accepted, refused}
 use Rattle.refusal.proofs.Theorems.{passes_lem}
 use Rattle.isa.specs.Profiles.{is_known}
 use Rattle.image.specs.Images.{Image, image_fits, pages_in}
-use Rattle.image.specs.Index.{build_decision, replace_decision}
+use Rattle.image.specs.Index.{replace_decision}
 
--- its index is as long as it has to be
-pub build_accepted : (image : Image) → build_decision image ≡ accepted → length image.index ≡ pages_in image.bytes
-build_accepted image e =
-    let known = passes_lem (is_known image.profile) 18 [] _ e in
-    let sized = passes_lem (image_fits image.bytes) 12 [] _ known.1 in
-    eqb-true _ _ (passes_lem (eqb (length image.index) (pages_in image.bytes)) 14 [] _ sized.1).0
-
--- and it has the page
+-- it has the page, and its index is as long as it has to be
 pub record HasPage (image : Image) (p : ℕ) : Type 0 where
   pub profile_known : is_known image.profile ≡ true
   pub sized : image_fits image.bytes ≡ true

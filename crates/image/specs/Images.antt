@@ -4,6 +4,7 @@ use Rattle.refusal.specs.Refusals.{Rule, rule}
 use Rattle.isa.specs.Profiles.{Profile, profile_of}
 use Rattle.platform.specs.Programs.{Program, profile_rule}
 use Rattle.platform.specs.declared.Platform.{Platform}
+use Rattle.image.specs.declared.Image as declared
 
 -- the bytes of an image and of its index, and what the counts go by, as a program has it
 pub record Image : Type 0 where
@@ -16,6 +17,10 @@ pub record Image : Type 0 where
 abbrev pub image_of : List ℕ → List ℕ → Platform → Image
 image_of bytes index platform =
     record { bytes = bytes; index = index; never_return = platform.never_return; profile = profile_of platform.profile }
+
+-- the code's own
+abbrev pub seen_image : declared.Image → Image
+seen_image i = image_of i.pages.now i.index.now i.platform
 
 -- 1 to 4,096 pages
 unfoldable pub image_fits : List ℕ → Bool

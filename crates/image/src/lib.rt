@@ -5,17 +5,26 @@ ghost use Rattle.std.specs.Prelude.{◌+◌, ◌*◌, ◌<◌, ◌≤◌, [], �
 ghost use Rattle.std.proofs.Math.Seq.{paste};
 ghost use Rattle.refusal.specs.Refusals.{decision, decision_of};
 ghost use Rattle.isa.specs.Profiles.{profile_of};
-ghost use Rattle.platform.specs.Programs.{program_of, profile_rule};
+ghost use Rattle.platform.specs.Programs.{program_of, seen_program, profile_rule};
 ghost use Rattle.count.specs.Count.{count_program};
-ghost use Rattle.image.specs.Images.{image_of, image_fits, pages_in, page_at, image_rule, number_rule, index_length_rule, page_rules, whole_page_rule};
+ghost use Rattle.image.specs.Images.{image_of, seen_image, image_fits, pages_in, page_at, image_rule, number_rule, index_length_rule, page_rules, whole_page_rule};
 ghost use Rattle.image.specs.Index.{counts_in, equal_lists, build_decision, index_built, replace_decision, after_replace};
 
-use platform::Platform;
-use refusal::{Refusal, Verdict};
+use platform::{Platform, Program};
+use refusal::Refusal;
+
+// An image whose pages and index are only read, and the platform that its counts go by.
+#[derive(Clone, Copy)]
+pub struct Image<'a> {
+    pub pages: &'a [u8],
+    pub index: &'a [u8],
+    pub platform: Platform,
+}
 
 // ---- what is refused
 
 // 1 to 4,096 pages.
+#[tactic(auto, unfolding(crate::specs::Images::image_fits))]
 pub fn fits(image: &[u8]) -> bool
     ensures { result ≡ image_fits image.now }
 {
@@ -28,126 +37,117 @@ pub fn fits(image: &[u8]) -> bool
     image.len() % 256 == 0
 }
 
-fn of_image(image: &[u8], platform: Platform) -> Verdict
-    ensures { decision_of result ≡ decision (profile_rule (profile_of platform.profile) ∷ image_rule image.now ∷ []) }
+fn of_image(pages: &[u8], platform: Platform) -> Result<(), Refusal>
+    ensures { decision_of result ≡ decision (profile_rule (profile_of platform.profile) ∷ image_rule pages.now ∷ []) }
 {
     if !platform::is_known(platform) {
-        return Verdict::Refused(Refusal::UnknownProfile);
+        return Err(Refusal::UnknownProfile);
     }
-    if !fits(image) {
-        return Verdict::Refused(Refusal::ImageLength);
+    if !fits(pages) {
+        return Err(Refusal::ImageLength);
     }
-    Verdict::Accepted
+    Ok(())
 }
 
-fn of_number(image: &[u8], number: u32) -> Verdict
-    ensures { decision_of result ≡ decision (number_rule image.now number ∷ []) }
+fn of_number(pages: &[u8], number: u32) -> Result<(), Refusal>
+    ensures { decision_of result ≡ decision (number_rule pages.now number ∷ []) }
 {
-    if (number as usize) >= image.len() / 256 {
-        return Verdict::Refused(Refusal::NoSuchPage);
+    if (number as usize) >= pages.len() / 256 {
+        return Err(Refusal::NoSuchPage);
     }
-    Verdict::Accepted
+    Ok(())
 }
 
-fn of_index_length(image: &[u8], index: &[u8]) -> Verdict
-    ensures { decision_of result ≡ decision (index_length_rule image.now index.now ∷ []) }
+fn of_index_length(pages: &[u8], index: &[u8]) -> Result<(), Refusal>
+    ensures { decision_of result ≡ decision (index_length_rule pages.now index.now ∷ []) }
 {
-    if index.len() != image.len() / 256 {
-        return Verdict::Refused(Refusal::IndexLength);
+    if index.len() != pages.len() / 256 {
+        return Err(Refusal::IndexLength);
     }
-    Verdict::Accepted
+    Ok(())
 }
 
-fn of_build(image: &[u8], index: &[u8], platform: Platform) -> Verdict
-    ensures { decision_of result ≡ build_decision (image_of image.now index.now platform) }
+fn of_build(image: &Image) -> Result<(), Refusal>
+    ensures { decision_of result ≡ build_decision (seen_image image.now) }
 {
-    let whole = of_image(image, platform);
-    let indexed = of_index_length(image, index);
-    refusal::first_of(whole, indexed)
+    of_image(image.pages, image.platform)?;
+    of_index_length(image.pages, image.index)
 }
 
 // There is an image, a page of this number, and an index.
-pub fn of_page(image: &[u8], index: &[u8], platform: Platform, number: u32) -> Verdict
-    ensures { decision_of result ≡ decision (page_rules (image_of image.now index.now platform) number) }
+pub fn of_page(image: &Image, number: u32) -> Result<(), Refusal>
+    ensures { decision_of result ≡ decision (page_rules (seen_image image.now) number) }
 {
-    let whole = of_image(image, platform);
-    let placed = of_number(image, number);
-    let indexed = of_index_length(image, index);
-    let behind = refusal::first_of(placed, indexed);
-    refusal::first_of(whole, behind)
+    of_image(image.pages, image.platform)?;
+    of_number(image.pages, number)?;
+    of_index_length(image.pages, image.index)
 }
 
 // A page that is to be put into an image.
-fn of_whole_page(page: &[u8]) -> Verdict
+fn of_whole_page(page: &[u8]) -> Result<(), Refusal>
     ensures { decision_of result ≡ decision (whole_page_rule page.now ∷ []) }
 {
     if page.len() != 256 {
-        return Verdict::Refused(Refusal::PageLength);
+        return Err(Refusal::PageLength);
     }
-    Verdict::Accepted
+    Ok(())
 }
 
 // ---- the counts
 
-// A count, as a byte of the index has it.
-fn count_of(page: &[u8], platform: Platform) -> u8
-    ensures { result ≡ (count_program (program_of page.now platform)).count }
+// A count, as a byte of the index has it; 0 where it is refused.
+fn count_of(program: &Program) -> u8
+    ensures { result ≡ (count_program (seen_program program.now)).count }
 {
-    let counted = count::count(page, platform);
-    counted.count as u8
+    count::count(program).unwrap_or(0) as u8
 }
 
 // Of page p.
-fn count_at(image: &[u8], platform: Platform, p: usize) -> u8
-    requires { p < pages_in image.now }
-    ensures { result ≡ (count_program (program_of (page_at image.now p) platform)).count }
+fn count_at(pages: &[u8], platform: Platform, p: usize) -> u8
+    requires { p < pages_in pages.now }
+    ensures { result ≡ (count_program (program_of (page_at pages.now p) platform)).count }
 {
     let at = 256 * p;
-    count_of(&image[at..at + 256], platform)
+    let page = &pages[at..at + 256];
+    count_of(&Program { page, platform })
 }
 
 // Every byte of the index is its page's count.
-pub fn holds_counts(image: &[u8], index: &[u8], platform: Platform) -> bool
-    ensures { result ≡ equal_lists index.now (counts_in (image_of image.now index.now platform)) }
+pub fn holds_counts(image: &Image) -> bool
+    ensures { result ≡ equal_lists image.now.index.now (counts_in (seen_image image.now)) }
 {
-    if index.len() != image.len() / 256 {
+    if image.index.len() != image.pages.len() / 256 {
         return false;
     }
-    let mut p = 0;
-    while p < index.len() {
-        let counted = count_at(image, platform, p);
-        if index[p] != counted {
+    for p in 0..image.index.len() {
+        if image.index[p] != count_at(image.pages, image.platform, p) {
             return false;
         }
-        p += 1;
     }
     true
 }
 
-fn fill(image: &[u8], index: &mut [u8], platform: Platform)
-    requires { length index.old ≡ pages_in image.now }
-    ensures { index.new ≡ counts_in (image_of image.now index.old platform) }
+fn fill(pages: &[u8], index: &mut [u8], platform: Platform)
+    requires { length index.old ≡ pages_in pages.now }
+    ensures { index.new ≡ counts_in (image_of pages.now index.old platform) }
 {
-    let mut p = 0;
-    while p < index.len() {
-        index[p] = count_at(image, platform, p);
-        p += 1;
+    for p in 0..index.len() {
+        index[p] = count_at(pages, platform, p);
     }
 }
 
-// Builds the index of an image.
-pub fn build(image: &[u8], index: &mut [u8], platform: Platform) -> Verdict
+// Builds the index of an image. Image and index stand apart here and below: what is lent to be written is in no Image.
+pub fn build(image: &[u8], index: &mut [u8], platform: Platform) -> Result<(), Refusal>
     ensures { (decision_of result ≡ build_decision (image_of image.now index.old platform))
         × (index.new ≡ index_built (image_of image.now index.old platform)) }
 {
-    let verdict = of_build(image, &index[..], platform);
-    match verdict {
-        Verdict::Refused(why) => Verdict::Refused(why),
-        Verdict::Accepted => {
-            fill(image, index, platform);
-            Verdict::Accepted
-        }
-    }
+    of_build(&Image {
+        pages: image,
+        index: &index[..],
+        platform,
+    })?;
+    fill(image, index, platform);
+    Ok(())
 }
 
 // ---- one page
@@ -156,19 +156,17 @@ fn put_page(image: &mut [u8], at: usize, page: &[u8])
     requires { (length page.now ≡ 256) × (at + 256 ≤ length image.old) }
     ensures { image.new ≡ paste image.old at page.now 256 }
 {
-    let mut i = 0;
-    while i < 256 {
+    // byte by byte: the library calls no memcpy
+    for i in 0..256 {
         image[at + i] = page[i];
-        i += 1;
     }
 }
 
-fn of_replace(image: &[u8], index: &[u8], platform: Platform, number: u32, page: &[u8]) -> Verdict
-    ensures { decision_of result ≡ replace_decision (image_of image.now index.now platform) number page.now }
+fn of_replace(image: &Image, number: u32, page: &[u8]) -> Result<(), Refusal>
+    ensures { decision_of result ≡ replace_decision (seen_image image.now) number page.now }
 {
-    let placed = of_page(image, index, platform, number);
-    let whole = of_whole_page(page);
-    refusal::first_of(placed, whole)
+    of_page(image, number)?;
+    of_whole_page(page)
 }
 
 // Replaces a page of an image, and its byte of the index.
@@ -178,18 +176,18 @@ pub fn replace(
     platform: Platform,
     number: u32,
     page: &[u8],
-) -> Verdict
+) -> Result<(), Refusal>
     ensures { (decision_of result ≡ replace_decision (image_of image.old index.old platform) number page.now)
         × (image_of image.new index.new platform ≡ after_replace (image_of image.old index.old platform) number page.now) }
 {
-    let verdict = of_replace(&image[..], &index[..], platform, number, page);
-    match verdict {
-        Verdict::Refused(why) => Verdict::Refused(why),
-        Verdict::Accepted => {
-            let p = number as usize;
-            index[p] = count_of(page, platform);
-            put_page(image, 256 * p, page);
-            Verdict::Accepted
-        }
-    }
+    let before = Image {
+        pages: &image[..],
+        index: &index[..],
+        platform,
+    };
+    of_replace(&before, number, page)?;
+    let p = number as usize;
+    index[p] = count_of(&Program { page, platform });
+    put_page(image, 256 * p, page);
+    Ok(())
 }

@@ -8,7 +8,7 @@ use Rattle.isa.specs.Profiles.{is_known}
 use Rattle.window.specs.Windows.{window_fits}
 use Rattle.platform.specs.Programs.{Program, Setting}
 use Rattle.state.specs.Validation.{external_fits}
-use Rattle.image.specs.Images.{image_of, image_fits, pages_in, program_at, byte_of}
+use Rattle.image.specs.Images.{image_fits, pages_in, program_at, byte_of}
 use Rattle.image.specs.Index.{counts_in}
 use Rattle.plain.specs.PlainMachine.{Result}
 use Rattle.series.specs.Machine.{Handed, Kind, Machine, machine_of}
@@ -16,7 +16,7 @@ use Rattle.series.specs.Series.{State}
 use Rattle.instruction.specs.Instructions.{instruction_of}
 use Rattle.instruction.specs.Fitness.{FitBy, StartsBy, ServiceAt, Known}
 use Rattle.machine.specs.Runs.{seen}
-use Rattle.image_runs.specs.ImageRuns.{ImageSetting, image_setting_of, setting_at, image_decision}
+use Rattle.image_runs.specs.ImageRuns.{ImageSetting, seen_image_setting, setting_at, image_decision}
 use Rattle.image_runs.specs.contracts.run as run
 use Rattle.image_runs.proofs.run.Kinds as run-kinds
 use Rattle.image_runs.proofs.run.Reads as run-reads
@@ -66,37 +66,37 @@ image_page = record {
 
 -- ---- the code's calls
 
--- a call of `run` or `step` as the checker reads it: the arguments (image, index, platform, the page's number, RAM, external data,
--- window, record and, for `run`, the budget), the answer, what is lent at exit, and all that is known of them: the contract
+-- a call of `run` or `step` as the checker reads it: the arguments (setting, the page's number, RAM, record and, for `run`, the budget), the
+-- answer, what is lent at exit, and all that is known of them: the contract
 pub data ImageCall : Type 0 where
-  of_run : (κs : Lfts 4) (a : ArgsD run.signature κs) (x : ResD run.signature κs) (s : AtExit (ended_of 4 run-kinds.ps run-kinds.r) κs)
+  of_run : (κs : Lfts 3) (a : ArgsD run.signature κs) (x : ResD run.signature κs) (s : AtExit (ended_of 3 run-kinds.ps run-kinds.r) κs)
       → run-reads.Post κs a x s → ImageCall
-  of_step : (κs : Lfts 4) (a : ArgsD step.signature κs) (x : ResD step.signature κs) (s : AtExit (ended_of 4 step-kinds.ps step-kinds.r) κs)
+  of_step : (κs : Lfts 3) (a : ArgsD step.signature κs) (x : ResD step.signature κs) (s : AtExit (ended_of 3 step-kinds.ps step-kinds.r) κs)
       → step-reads.Post κs a x s → ImageCall
 
 abbrev pub handed_to : ImageCall → Handed InPage
 handed_to (of_run κs a x s contract) = record {
   setting = record {
-    setting = image_setting_of (image_of a.0.now a.1.0.now a.1.1.0) a.1.1.1.1.1.0.now a.1.1.1.1.1.1.0;
-    number = a.1.1.1.0;
+    setting = seen_image_setting a.0.now;
+    number = a.1.0;
   };
-  budget = a.1.1.1.1.1.1.1.1.0;
-  rec = a.1.1.1.1.1.1.1.0;
-  ram = a.1.1.1.1.0.now;
+  budget = a.1.1.1.1.0;
+  rec = a.1.1.1.0;
+  ram = a.1.1.0.now;
 }
 handed_to (of_step κs a x s contract) = record {
   setting = record {
-    setting = image_setting_of (image_of a.0.now a.1.0.now a.1.1.0) a.1.1.1.1.1.0.now a.1.1.1.1.1.1.0;
-    number = a.1.1.1.0;
+    setting = seen_image_setting a.0.now;
+    number = a.1.0;
   };
   budget = 1;
-  rec = a.1.1.1.1.1.1.1.0;
-  ram = a.1.1.1.1.0.now;
+  rec = a.1.1.1.0;
+  ram = a.1.1.0.now;
 }
 
 abbrev pub gave_by : ImageCall → Result
-gave_by (of_run κs a x s contract) = seen x s.1.1.1.1.0.now
-gave_by (of_step κs a x s contract) = seen x s.1.1.1.1.0.now
+gave_by (of_run κs a x s contract) = seen x s.1.1.0.now
+gave_by (of_step κs a x s contract) = seen x s.1.1.0.now
 
 abbrev pub image_machine : InPage → Machine
 image_machine = machine_of image_page ImageCall handed_to gave_by

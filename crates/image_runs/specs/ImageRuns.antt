@@ -3,13 +3,14 @@ use Rattle.std.specs.Prelude.{ℕ, List, ◌∷◌, ◌++◌, length}
 use Rattle.refusal.specs.Refusals.{Decision, Rule, decision}
 use Rattle.window.specs.declared.Window.{Window}
 use Rattle.platform.specs.Programs.{Setting, setting_of}
-use Rattle.image.specs.Images.{Image, program_at, byte_of, page_rules}
+use Rattle.image.specs.Images.{Image, seen_image, program_at, byte_of, page_rules}
 use Rattle.image.specs.Index.{index_rule}
 use Rattle.state.specs.declared.Record.{Record}
 use Rattle.admission.specs.RunRefusals.{lent_rules, record_rules}
 use Rattle.plain.specs.PlainMachine.{Result}
 use Rattle.plain.specs.Calls.{call_by}
 use Rattle.instruction.specs.Instructions.{instruction_of}
+use Rattle.image_runs.specs.declared.ImageSetting as declared
 
 -- an image, the external data and the window of RAM
 pub record ImageSetting : Type 0 where
@@ -19,6 +20,10 @@ pub record ImageSetting : Type 0 where
 
 abbrev pub image_setting_of : Image → List ℕ → Window → ImageSetting
 image_setting_of image external window = record { image = image; external = external; window = window }
+
+-- the code's own
+abbrev pub seen_image_setting : declared.ImageSetting → ImageSetting
+seen_image_setting s = image_setting_of (seen_image s.image) s.external.now s.window
 
 -- what an instruction in page p gets: the page as a program, the same data and window
 abbrev pub setting_at : ImageSetting → ℕ → Setting

@@ -3,166 +3,115 @@
 
 ghost use Rattle.std.specs.Prelude.{◌<◌, [], ◌∷◌, ◌≡◌, length};
 ghost use Rattle.refusal.specs.Refusals.{decision, decision_of};
-ghost use Rattle.platform.specs.Programs.{program_of, setting_of};
-ghost use Rattle.image.specs.Images.{image_of, pages_in, page_at, program_at, byte_of};
+ghost use Rattle.platform.specs.Programs.{seen_program};
+ghost use Rattle.image.specs.Images.{seen_image, pages_in, program_at, byte_of};
 ghost use Rattle.image.specs.Index.{index_rule};
 ghost use Rattle.admission.specs.RunRefusals.{record_rules};
 ghost use Rattle.plain.specs.PlainMachine.{plain};
 ghost use Rattle.instruction.specs.Instructions.{instruction_of};
 ghost use Rattle.machine.specs.Runs.{seen};
-ghost use Rattle.image_runs.specs.ImageRuns.{image_setting_of, image_area_rules, image_decision, image_run_of};
+ghost use Rattle.image_runs.specs.ImageRuns.{seen_image_setting, setting_at, image_area_rules, image_decision, image_run_of};
 
+use image::Image;
 use machine::Answer;
-use platform::Platform;
-use refusal::{Refusal, Verdict};
+use platform::{Program, Setting};
+use refusal::Refusal;
 use state::Record;
 use stop::Stop;
 use window::Window;
 
+// What a run in an image gets beside a page's number, budget, record and RAM.
+#[derive(Clone, Copy)]
+pub struct ImageSetting<'a> {
+    pub image: Image<'a>,
+    pub external: &'a [u8],
+    pub window: Window,
+}
+
 // ---- what is refused
 
 // Every byte of the index is its page's count.
-fn of_index(image: &[u8], index: &[u8], platform: Platform) -> Verdict
-    ensures { decision_of result ≡ decision (index_rule (image_of image.now index.now platform) ∷ []) }
+fn of_index(image: &Image) -> Result<(), Refusal>
+    ensures { decision_of result ≡ decision (index_rule (seen_image image.now) ∷ []) }
 {
-    if !image::holds_counts(image, index, platform) {
-        return Verdict::Refused(Refusal::WrongIndex);
+    if !image::holds_counts(image) {
+        return Err(Refusal::WrongIndex);
     }
-    Verdict::Accepted
+    Ok(())
 }
 
 // The image has the page, its index is right, and what is lent beside it is allowed. Pages are counted only if there is an index to hold
 // the counts against.
-pub fn of_areas(
-    image: &[u8],
-    index: &[u8],
-    platform: Platform,
-    number: u32,
-    ram: &[u8],
-    external: &[u8],
-    window: Window,
-) -> Verdict
-    ensures { decision_of result ≡ decision (image_area_rules (image_setting_of (image_of image.now index.now platform) external.now window) number ram.now) }
+pub fn of_areas(setting: &ImageSetting, number: u32, ram: &[u8]) -> Result<(), Refusal>
+    ensures { decision_of result ≡ decision (image_area_rules (seen_image_setting setting.now) number ram.now) }
 {
-    if let Verdict::Refused(why) = image::of_page(image, index, platform, number) {
-        return Verdict::Refused(why);
+    image::of_page(&setting.image, number)?;
+    of_index(&setting.image)?;
+    admission::of_lent(ram, setting.external, setting.window)
+}
+
+// A page that the image has, as a lone one.
+fn program_at<'a>(image: &Image<'a>, number: u32) -> Program<'a>
+    requires { number < pages_in image.now.pages.now }
+    ensures { seen_program result ≡ program_at (seen_image image.now) number }
+{
+    let at = 256 * (number as usize);
+    Program {
+        page: &image.pages[at..at + 256],
+        platform: image.platform,
     }
-    let counts = of_index(image, index, platform);
-    let lent = admission::of_lent(ram, external, window);
-    refusal::first_of(counts, lent)
 }
 
 // The record is fit, and so is its place, by the index byte of the page.
-fn of_record(
-    image: &[u8],
-    index: &[u8],
-    platform: Platform,
-    number: u32,
-    external: &[u8],
-    r: Record,
-) -> Verdict
-    requires { number < pages_in image.now }
-    ensures { decision_of result ≡ decision (record_rules (program_at (image_of image.now index.now platform) number) (byte_of (image_of image.now index.now platform) number) (length external.now) r) }
+fn of_record(setting: &ImageSetting, number: u32, r: Record) -> Result<(), Refusal>
+    requires { number < pages_in setting.now.image.pages.now }
+    ensures { decision_of result ≡ decision (record_rules (program_at (seen_image setting.now.image) number) (byte_of (seen_image setting.now.image) number) (length setting.now.external.now) r) }
 {
-    let p = number as usize;
-    let count = endian::byte(index, p) as u32;
-    let at = 256 * p;
-    admission::of_record(&image[at..at + 256], platform, count, external, r)
+    let program = program_at(&setting.image, number);
+    let count = endian::byte(setting.image.index, number as usize) as u32;
+    admission::of_record(&program, count, setting.external, r)
 }
 
-fn verdict_of(
-    image: &[u8],
-    index: &[u8],
-    platform: Platform,
-    number: u32,
-    ram: &[u8],
-    external: &[u8],
-    window: Window,
-    r: Record,
-) -> Verdict
-    ensures { decision_of result ≡ image_decision (image_setting_of (image_of image.now index.now platform) external.now window) number r ram.now }
+#[tactic(auto, using(crate::proofs::Theorems::record_behind))]
+fn verdict_of(setting: &ImageSetting, number: u32, ram: &[u8], r: Record) -> Result<(), Refusal>
+    ensures { decision_of result ≡ image_decision (seen_image_setting setting.now) number r ram.now }
 {
-    let areas = of_areas(image, index, platform, number, ram, external, window);
-    match areas {
-        Verdict::Refused(why) => Verdict::Refused(why),
-        Verdict::Accepted => of_record(image, index, platform, number, external, r),
-    }
+    of_areas(setting, number, ram)?;
+    of_record(setting, number, r)
 }
 
 // ---- runs
 
 // In a page that the image has.
-fn run_in(
-    image: &[u8],
-    platform: Platform,
-    number: u32,
-    ram: &mut [u8],
-    external: &[u8],
-    window: Window,
-    r: Record,
-    budget: u32,
-) -> Answer
-    requires { number < pages_in image.now }
-    ensures { seen result ram.new ≡ plain (instruction_of (setting_of (program_of (page_at image.now number) platform) external.now window)) budget 0 r ram.old }
+fn run_in(setting: &ImageSetting, number: u32, ram: &mut [u8], r: Record, budget: u32) -> Answer
+    requires { number < pages_in setting.now.image.pages.now }
+    ensures { seen result ram.new ≡ plain (instruction_of (setting_at (seen_image_setting setting.now) number)) budget 0 r ram.old }
 {
-    let at = 256 * (number as usize);
-    machine::run_admitted(
-        &image[at..at + 256],
-        platform,
-        ram,
-        external,
-        window,
-        r,
-        budget,
-    )
+    let lone = Setting {
+        program: program_at(&setting.image, number),
+        external: setting.external,
+        window: setting.window,
+    };
+    machine::run_admitted(&lone, ram, r, budget)
 }
 
 // A run in a page.
-pub fn run(
-    image: &[u8],
-    index: &[u8],
-    platform: Platform,
-    number: u32,
-    ram: &mut [u8],
-    external: &[u8],
-    window: Window,
-    r: Record,
-    budget: u32,
-) -> Answer
-    ensures { seen result ram.new ≡ image_run_of (image_setting_of (image_of image.now index.now platform) external.now window) number budget r ram.old }
+pub fn run(setting: &ImageSetting, number: u32, ram: &mut [u8], r: Record, budget: u32) -> Answer
+    ensures { seen result ram.new ≡ image_run_of (seen_image_setting setting.now) number budget r ram.old }
 {
-    let verdict = verdict_of(
-        image,
-        index,
-        platform,
-        number,
-        &ram[..],
-        external,
-        window,
-        r,
-    );
-    match verdict {
-        Verdict::Refused(why) => Answer {
+    match verdict_of(setting, number, &ram[..], r) {
+        Ok(()) => run_in(setting, number, ram, r, budget),
+        Err(why) => Answer {
             stop: Stop::Refused(why),
             steps: 0,
             after: r,
         },
-        Verdict::Accepted => run_in(image, platform, number, ram, external, window, r, budget),
     }
 }
 
 // A step: a run with budget 1.
-pub fn step(
-    image: &[u8],
-    index: &[u8],
-    platform: Platform,
-    number: u32,
-    ram: &mut [u8],
-    external: &[u8],
-    window: Window,
-    r: Record,
-) -> Answer
-    ensures { seen result ram.new ≡ image_run_of (image_setting_of (image_of image.now index.now platform) external.now window) number 1 r ram.old }
+pub fn step(setting: &ImageSetting, number: u32, ram: &mut [u8], r: Record) -> Answer
+    ensures { seen result ram.new ≡ image_run_of (seen_image_setting setting.now) number 1 r ram.old }
 {
-    run(image, index, platform, number, ram, external, window, r, 1)
+    run(setting, number, ram, r, 1)
 }

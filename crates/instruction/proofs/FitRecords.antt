@@ -1,4 +1,6 @@
 -- What an instruction leaves is fit: records by their SP and base, and RAM by its length.
+use Rattle.memory.specs.declared.Fault.{Fault}
+use Rattle.std.specs.Prelude.{Result, Ok, Err}
 use Prim.Native.Nat.{ℕ, ◌+◌, ◌-◌, ◌*◌, ◌%◌, ◌^◌, ◌≤◌}
 use native.Mathlib.Omega.{arith}
 use mathlib.Core.Bool.{Bool, true, false, ◌&&◌, cond}
@@ -20,12 +22,6 @@ use Rattle.window.specs.declared.Window.{Window}
 use Rattle.memory.specs.Memory.{stored_by, after_store_by, signed_loaded}
 use Rattle.memory.proofs.Ram.{base_keeps}
 use Rattle.memory.specs.declared.Fault.TheVariants.{LowStack}
-use Rattle.memory.specs.declared.Loaded.{Loaded}
-use Rattle.memory.specs.declared.Loaded.TheVariants.{Value}
-use Rattle.memory.specs.declared.Loaded.TheVariants as loaded
-use Rattle.memory.specs.declared.Attempt.{Attempt}
-use Rattle.memory.specs.declared.Attempt.TheVariants.{Done}
-use Rattle.memory.specs.declared.Attempt.TheVariants as attempt
 use Rattle.state.specs.FitRecord.{sp_fits, base_fits}
 use Rattle.state.specs.Record.{register}
 use Rattle.writing.specs.Writes.{writes_nothing, writing_sp, writing_base}
@@ -87,15 +83,15 @@ none_after external (does w ram) h = (base_fits_lem w Nothing external refl h.0,
 none_after external (fails fault) h = tt
 
 module _ (external : ℕ) (r : Record) (window : Window) (ram : List ℕ) (f : FitWrites external (writes_nothing r)) (e : length ram ≡ 32768) where
-  load_leaves : (t : ℕ) (l : Loaded) → Leaves external (load_to r ram t l)
+  load_leaves : (t : ℕ) (l : Result ℕ Fault) → Leaves external (load_to r ram t l)
   unfolding load_to
-  load_leaves t (Value x) = (f, e)
-  load_leaves t (loaded.Fails fault) = tt
+  load_leaves t (Ok x) = (f, e)
+  load_leaves t (Err fault) = tt
 
-  store_leaves : (s : Attempt) (after : List ℕ) → length after ≡ 32768 → Leaves external (store_with r s after)
+  store_leaves : (s : Result Unit Fault) (after : List ℕ) → length after ≡ 32768 → Leaves external (store_with r s after)
   unfolding store_with
-  store_leaves Done after l = (f, l)
-  store_leaves (attempt.Fails fault) after l = tt
+  store_leaves (Ok t) after l = (f, l)
+  store_leaves (Err fault) after l = tt
 
   -- RAM keeps its length
   same_length : (x at : ℕ) (size : Size) → length (store_le (width_of size) ram at x) ≡ 32768

@@ -1,5 +1,6 @@
 -- From a fit record, place and RAM an instruction goes on or exits with fit ones, an exit being by a service that stands there, or
 -- it meets one of the seven faults; and a fit place starts a listed instruction.
+use Rattle.std.specs.Prelude.{Option, Some, None}
 use Prim.Native.Nat.{ℕ, ◌*◌}
 use native.Mathlib.Omega.{arith}
 use mathlib.Core.Bool.{Bool, true, false, not}
@@ -17,9 +18,6 @@ use Rattle.isa.specs.declared.Instruction.{Instruction}
 use Rattle.isa.specs.declared.Instruction.TheVariants.{Data, Memory, Cbz, Cbnz, Bcc, B, Unlisted}
 use Rattle.isa.specs.declared.Instruction.TheVariants as instruction
 use Rattle.branch.specs.Branches.{target_of}
-use Rattle.branch.specs.declared.Target.{Target}
-use Rattle.branch.specs.declared.Target.TheVariants.{At}
-use Rattle.branch.specs.declared.Target.TheVariants as target
 use Rattle.service.specs.Services.{service_of}
 use Rattle.ending.specs.Endings.{ending_in}
 use Rattle.ending.specs.declared.Ending.{Ending}
@@ -86,17 +84,17 @@ module _ (setting : Setting) (r : Record) (ram : List ℕ) (f : Fit setting r ra
   unfolding fit_record with_place
   moved_lem place p = record { record_fits = f.record_fits; place_fits = p; ram_fits = f.ram_fits }
 
-  branch_kept : (t : Target) → LeadsFrom program r.place (flow_by true (jump_to t)) → Kept (branch_to r ram t)
+  branch_kept : (t : Option ℕ) → LeadsFrom program r.place (flow_by true (jump_to t)) → Kept (branch_to r ram t)
   unfolding branch_to
-  branch_kept target.Bad h = absurd h
-  branch_kept (At b) h = moved_lem (2 * b) h
+  branch_kept None h = absurd h
+  branch_kept (Some b) h = moved_lem (2 * b) h
 
-  if_kept : (taken : Bool) (t : Target) → LeadsFrom program r.place (flow_by false (jump_to t))
+  if_kept : (taken : Bool) (t : Option ℕ) → LeadsFrom program r.place (flow_by false (jump_to t))
       → Kept (branch_if taken r ram (following page r.place) t)
   unfolding branch_if branch_to
-  if_kept taken target.Bad h = absurd h
-  if_kept true (At b) h = moved_lem (2 * b) h.0
-  if_kept false (At b) h = moved_lem (following page r.place) h.1
+  if_kept taken None h = absurd h
+  if_kept true (Some b) h = moved_lem (2 * b) h.0
+  if_kept false (Some b) h = moved_lem (following page r.place) h.1
 
   -- ---- a service, by how it ends
 

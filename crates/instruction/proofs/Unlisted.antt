@@ -1,5 +1,6 @@
 -- When an instruction is unlisted: exactly when nothing listed stands at the place, or its service is bad, or the target
 -- that it takes is.
+use Rattle.std.specs.Prelude.{Option, Some, None}
 use Prim.Native.Nat.{ℕ}
 use mathlib.Core.Bool.{Bool, true, false, not, true≢false}
 use mathlib.Core.List.{List}
@@ -15,9 +16,6 @@ use Rattle.arm.specs.Conditions.{condition_holds}
 use Rattle.isa.specs.declared.Instruction.{Instruction}
 use Rattle.isa.specs.declared.Instruction.TheVariants.{Data, Memory, Cbz, Cbnz, Bcc, B, Service, Unlisted}
 use Rattle.branch.specs.Branches.{target_of}
-use Rattle.branch.specs.declared.Target.{Target}
-use Rattle.branch.specs.declared.Target.TheVariants.{At}
-use Rattle.branch.specs.declared.Target.TheVariants as target
 use Rattle.platform.specs.Programs.{Setting}
 use Rattle.service.specs.Services.{service_of}
 use Rattle.ending.specs.Endings.{ending_of, ending_on, ending_in}
@@ -48,13 +46,13 @@ unfolding end_at
 not_exit exit r place (does w ram) e = true≢false cc
 not_exit exit r place (fails fault) e = true≢false cc
 
-bad_target : (r : Record) (ram : List ℕ) (t : Target) → branch_to r ram t ≡ unlisted ↔ t ≡ target.Bad
+bad_target : (r : Record) (ram : List ℕ) (t : Option ℕ) → branch_to r ram t ≡ unlisted ↔ t ≡ None
 unfolding branch_to
-bad_target r ram target.Bad = (λ e. refl, λ e. refl)
-bad_target r ram (At b) = (λ e. cc, λ e. cc)
+bad_target r ram None = (λ e. refl, λ e. refl)
+bad_target r ram (Some b) = (λ e. cc, λ e. cc)
 
-bad_taken : (taken : Bool) (r : Record) (ram : List ℕ) (next : ℕ) (t : Target)
-    → branch_if taken r ram next t ≡ unlisted ↔ (taken ≡ true) × (t ≡ target.Bad)
+bad_taken : (taken : Bool) (r : Record) (ram : List ℕ) (next : ℕ) (t : Option ℕ)
+    → branch_if taken r ram next t ≡ unlisted ↔ (taken ≡ true) × (t ≡ None)
 unfolding branch_if
 bad_taken true r ram next t = let bad = bad_target r ram t in (λ e. (refl, bad.0 e), λ h. bad.1 h.1)
 bad_taken false r ram next t = (λ e. (cc, cc), λ h. cc)

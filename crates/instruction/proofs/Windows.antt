@@ -1,4 +1,5 @@
 -- An instruction by two windows and in two related RAMs has the same effect.
+use Rattle.std.specs.Prelude.{Option, Some, None}
 use Prim.Native.Nat.{ℕ, ◌*◌}
 use mathlib.Core.Bool.{Bool, true, false}
 use mathlib.Core.List.{List}
@@ -6,9 +7,6 @@ use mathlib.Core.Path.{refl, ap}
 use lib.ListN.{length}
 use Rattle.isa.specs.declared.Instruction.{Instruction}
 use Rattle.isa.specs.declared.Instruction.TheVariants.{Data, Memory, Cbz, Cbnz, Bcc, B, Service, Unlisted}
-use Rattle.branch.specs.declared.Target.{Target}
-use Rattle.branch.specs.declared.Target.TheVariants.{At}
-use Rattle.branch.specs.declared.Target.TheVariants as target
 use Rattle.service.specs.Services.{service_of}
 use Rattle.ending.specs.Endings.{ending_in}
 use Rattle.ending.specs.declared.Ending.{Ending}
@@ -50,12 +48,12 @@ module _ (w v : Window) (S : List ℕ → List ℕ → Type 0) (h : Related w v 
   moves : (place : ℕ) → Same (goes_on (with_place r place) a) (goes_on (with_place r place) b)
   moves place = both (go_on (with_place r place) a b refl refl s)
 
-  branches : (t : Target) → Same (branch_to r a t) (branch_to r b t)
+  branches : (t : Option ℕ) → Same (branch_to r a t) (branch_to r b t)
   unfolding branch_to
-  branches target.Bad = both (mark refl refl)
-  branches (At k) = moves (2 * k)
+  branches None = both (mark refl refl)
+  branches (Some k) = moves (2 * k)
 
-  branches_if : (taken : Bool) (next : ℕ) (t : Target) → Same (branch_if taken r a next t) (branch_if taken r b next t)
+  branches_if : (taken : Bool) (next : ℕ) (t : Option ℕ) → Same (branch_if taken r a next t) (branch_if taken r b next t)
   unfolding branch_if
   branches_if true next t = branches t
   branches_if false next t = moves next

@@ -1,4 +1,5 @@
 -- Words of 32 bits, from bytes and from what a listed data-processing instruction writes.
+use Rattle.std.specs.Prelude.{Option, Some, None}
 use Prim.Native.Nat.{ℕ, zero, suc, ◌+◌, ◌-◌, ◌*◌, ◌/◌, ◌%◌, ◌^◌, ◌<◌}
 use native.Mathlib.Nat.{lt_of_le_of_lt, div-le_self}
 use native.Mathlib.Omega.{arith}
@@ -29,8 +30,6 @@ use Rattle.isa.specs.declared.Instruction.{Instruction}
 use Rattle.isa.specs.declared.Instruction.TheVariants.{Data, Memory, Cbz, Cbnz, Bcc, B, Unlisted}
 use Rattle.isa.specs.declared.Instruction.TheVariants as instruction
 use Rattle.state.specs.Record.{register_in}
-use Rattle.writing.specs.declared.Write.{Write}
-use Rattle.writing.specs.declared.Write.TheVariants.{NoRegister, Register}
 use Rattle.compute.specs.Computed.{low_byte, computed}
 use Rattle.platform.specs.Programs.{Program, encodings_in}
 use Rattle.place.specs.Places.{is_even, stands_in, instruction_at}
@@ -115,9 +114,9 @@ imm16_below w = by (bits w 19 16) (bits w 26 26) (bits w 14 12) (bits w 7 0) (om
 
 -- ---- what a listed data-processing instruction writes
 
-abbrev pub WordWritten : Write → Type 0
-WordWritten NoRegister = Unit {0}
-WordWritten (Register d x) = x < 2 ^ 32
+abbrev pub WordWritten : Option (ℕ × ℕ) → Type 0
+WordWritten None = Unit {0}
+WordWritten (Some (d, x)) = x < 2 ^ 32
 
 -- what is written is a word, whatever the registers are; a service's low byte is a byte
 abbrev pub InWidth : Instruction → Type 0

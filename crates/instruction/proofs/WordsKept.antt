@@ -1,4 +1,5 @@
 -- From eight registers of 32 bits and RAM of bytes an instruction leaves such again, where the page and the external data are bytes.
+use Rattle.std.specs.Prelude.{Option, Some, None, Result, Ok, Err}
 use Prim.Native.Nat.{ℕ, ◌+◌, ◌-◌, ◌*◌, ◌/◌, ◌%◌, ◌^◌, ◌<◌}
 use native.Mathlib.Omega.{arith}
 use mathlib.Core.Bool.{Bool, true, false, cond}
@@ -16,9 +17,6 @@ use Rattle.isa.specs.declared.Access.TheVariants.{LdrLit, StrSp, LdrSp, Str, Str
 use Rattle.isa.specs.declared.Instruction.{Instruction}
 use Rattle.isa.specs.declared.Instruction.TheVariants.{Data, Memory, Cbz, Cbnz, Bcc, B, Unlisted}
 use Rattle.isa.specs.declared.Instruction.TheVariants as instruction
-use Rattle.branch.specs.declared.Target.{Target}
-use Rattle.branch.specs.declared.Target.TheVariants.{At}
-use Rattle.branch.specs.declared.Target.TheVariants as target
 use Rattle.platform.specs.Programs.{Setting}
 use Rattle.service.specs.Services.{service_of}
 use Rattle.ending.specs.Endings.{ending_in}
@@ -31,19 +29,11 @@ use Rattle.memory.specs.Memory.{ram_access, loaded_if, ram_loaded, external_page
 use Rattle.memory.proofs.Ram.{base_keeps}
 use Rattle.memory.specs.declared.Fault.{Fault}
 use Rattle.memory.specs.declared.Fault.TheVariants.{OffExternalPage, PastRam, PastStack, LowStack, PastPage}
-use Rattle.memory.specs.declared.Loaded.{Loaded}
-use Rattle.memory.specs.declared.Loaded.TheVariants.{Value}
-use Rattle.memory.specs.declared.Loaded.TheVariants as loaded
-use Rattle.memory.specs.declared.Attempt.{Attempt}
-use Rattle.memory.specs.declared.Attempt.TheVariants.{Done}
-use Rattle.memory.specs.declared.Attempt.TheVariants as attempt
 use Rattle.state.specs.Record.{register, with_place}
 use Rattle.state.specs.declared.Base.{Base}
 use Rattle.state.specs.declared.Base.TheVariants.{Nothing, Ram, External}
 use Rattle.state.specs.declared.Record.{Record}
 use Rattle.writing.specs.Writes.{writes_nothing, writing_sp, written_to, applied}
-use Rattle.writing.specs.declared.Write.{Write}
-use Rattle.writing.specs.declared.Write.TheVariants.{NoRegister, Register}
 use Rattle.access.specs.Outcomes.{Outcome, does, fails, load_to, store_with}
 use Rattle.access.specs.LoadsAndStores.{stack_loaded, stack_stored, store_at, literal_loaded, store_base, loaded_base, accessed}
 use Rattle.access.proofs.Theorems.{stack_keeps}
@@ -63,18 +53,18 @@ pub record Words (r : Record) (ram : List ℕ) : Type 0 where
 
 -- ---- loads
 
-abbrev LoadedWord : Loaded → Type 0
-LoadedWord (Value x) = x < 2 ^ 32
-LoadedWord (loaded.Fails fault) = Unit {0}
+abbrev LoadedWord : Result ℕ Fault → Type 0
+LoadedWord (Ok x) = x < 2 ^ 32
+LoadedWord (Err fault) = Unit {0}
 
 -- if its test holds
-load_if : (t : Bool) (x : ℕ) (fault : Fault) → x < 2 ^ 32 → LoadedWord (cond t (Value x) (loaded.Fails fault))
+load_if : (t : Bool) (x : ℕ) (fault : Fault) → x < 2 ^ 32 → LoadedWord (cond t (Ok x) (Err fault))
 load_if true x fault h = h
 load_if false x fault h = tt
 
-access_word : (s : Attempt) (x : ℕ) → x < 2 ^ 32 → LoadedWord (loaded_if s x)
-access_word Done x h = h
-access_word (attempt.Fails fault) x h = tt
+access_word : (s : Result Unit Fault) (x : ℕ) → x < 2 ^ 32 → LoadedWord (loaded_if s x)
+access_word (Ok t) x h = h
+access_word (Err fault) x h = tt
 
 ram_word : (window : Window) (ram : List ℕ) (at : ℕ) (size : Size) (past : Fault) → Below 256 ram → LoadedWord (ram_loaded window ram at size past)
 unfolding ram_loaded
@@ -85,7 +75,7 @@ stack_word : (window : Window) (ram : List ℕ) (address : ℕ) → Below 256 ra
 unfolding stack_loaded
 stack_word window ram address h = go (ltb address 0x10000)
   where
-    go : (t : Bool) → LoadedWord (cond t (loaded.Fails LowStack) (ram_loaded window ram (address - 0x10000) Word PastStack))
+    go : (t : Bool) → LoadedWord (cond t (Err LowStack) (ram_loaded window ram (address - 0x10000) Word PastStack))
     go true = tt
     go false = ram_word window ram (address - 0x10000) Word PastStack h
 
@@ -105,9 +95,9 @@ base_word (Ram offset) needs_ram window ram external imm12 size h e = ram_word w
 base_word (External offset) true window ram external imm12 size h e = tt
 base_word (External offset) false window ram external imm12 size h e = external_word external offset imm12 size e
 
-signed_word : (size : Size) (l : Loaded) → LoadedWord (signed_loaded size l)
-signed_word size (Value x) = extended_word (8 * width_of size) (x % 2 ^ (8 * width_of size))
-signed_word size (loaded.Fails fault) = tt
+signed_word : (size : Size) (l : Result ℕ Fault) → LoadedWord (signed_loaded size l)
+signed_word size (Ok x) = extended_word (8 * width_of size) (x % 2 ^ (8 * width_of size))
+signed_word size (Err fault) = tt
 
 page_word : (page : List ℕ) (k : ℕ) → Below 256 page → word_at page k < 2 ^ 32
 unfolding word_at halfword_at
@@ -140,15 +130,15 @@ module _ (setting : Setting) (p : Below 256 setting.program.page) (e : Below 256
   abbrev window : Window
   window = setting.window
 
-  load_words_lem : (t : ℕ) (l : Loaded) → LoadedWord l → OutWords (load_to r ram t l)
+  load_words_lem : (t : ℕ) (l : Result ℕ Fault) → LoadedWord l → OutWords (load_to r ram t l)
   unfolding load_to
-  load_words_lem t (Value x) l = (l, h.bytes)
-  load_words_lem t (loaded.Fails fault) l = tt
+  load_words_lem t (Ok x) l = (l, h.bytes)
+  load_words_lem t (Err fault) l = tt
 
-  store_words_lem : (s : Attempt) (after : List ℕ) → Below 256 after → OutWords (store_with r s after)
+  store_words_lem : (s : Result Unit Fault) (after : List ℕ) → Below 256 after → OutWords (store_with r s after)
   unfolding store_with
-  store_words_lem Done after l = (tt, l)
-  store_words_lem (attempt.Fails fault) after l = tt
+  store_words_lem (Ok t) after l = (tt, l)
+  store_words_lem (Err fault) after l = tt
 
   -- RAM keeps its bytes
   still_bytes : (x at : ℕ) (size : Size) → Below 256 (store_le (width_of size) ram at x)
@@ -218,9 +208,9 @@ module _ (setting : Setting) (p : Below 256 setting.program.page) (e : Below 256
 
   -- ---- every instruction
 
-  written_lem : (w : Write) → WordWritten w → (length (written_to r.regs w) ≡ 8) × Below (2 ^ 32) (written_to r.regs w)
-  written_lem NoRegister l = (h.eight, h.words)
-  written_lem (Register k x) l = (length-set r.regs k x ∙ h.eight, below_set (2 ^ 32) r.regs k x h.words l)
+  written_lem : (w : Option (ℕ × ℕ)) → WordWritten w → (length (written_to r.regs w) ≡ 8) × Below (2 ^ 32) (written_to r.regs w)
+  written_lem None l = (h.eight, h.words)
+  written_lem (Some (k, x)) l = (length-set r.regs k x ∙ h.eight, below_set (2 ^ 32) r.regs k x h.words l)
 
   end_words : (end : Record → List ℕ → Effect) → ((s : Record) (after : List ℕ) → Words s after → Leaves Words (end s after))
       → (place : ℕ) (o : Outcome) → OutWords o → Leaves Words (end_at end r place o)
@@ -234,12 +224,12 @@ module _ (setting : Setting) (p : Below 256 setting.program.page) (e : Below 256
   unfolding with_place
   moved_lem place = record { eight = h.eight; words = h.words; bytes = h.bytes }
 
-  branch_words : (t : Target) → Leaves Words (branch_to r ram t)
+  branch_words : (t : Option ℕ) → Leaves Words (branch_to r ram t)
   unfolding branch_to
-  branch_words target.Bad = tt
-  branch_words (At b) = moved_lem (2 * b)
+  branch_words None = tt
+  branch_words (Some b) = moved_lem (2 * b)
 
-  if_words : (taken : Bool) (next : ℕ) (t : Target) → Leaves Words (branch_if taken r ram next t)
+  if_words : (taken : Bool) (next : ℕ) (t : Option ℕ) → Leaves Words (branch_if taken r ram next t)
   unfolding branch_if
   if_words true next t = branch_words t
   if_words false next t = moved_lem next

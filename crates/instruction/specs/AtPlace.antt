@@ -1,5 +1,5 @@
 -- What two claims about an instruction speak of: pages that agree in what it reads, and when it means nothing listed.
-use Rattle.std.specs.Prelude.{ℕ, ◌+◌, ◌/◌, List, ◌≡◌, true, pos}
+use Rattle.std.specs.Prelude.{ℕ, ◌+◌, ◌/◌, List, ◌≡◌, true, pos, None}
 use Rattle.page.specs.Page.{bundles_in, first_of, second_of, word_at}
 use Rattle.isa.specs.declared.Access.{Access}
 use Rattle.isa.specs.declared.Access.TheVariants.{LdrLit, StrSp, LdrSp, Str, Strb, Strh, Ldr, Ldrb, Ldrh, Ldrsb, Ldrsh}
@@ -11,7 +11,6 @@ use Rattle.bits.specs.Fields.{bits}
 use Rattle.bits.specs.Integers.{SInt}
 use Rattle.arm.specs.Conditions.{condition_holds}
 use Rattle.branch.specs.Branches.{target_of}
-use Rattle.branch.specs.declared.Target.TheVariants as target
 use Rattle.service.specs.Services.{service_of}
 use Rattle.literal.specs.declared.Service.TheVariants as service
 use Rattle.state.specs.Record.{register}
@@ -51,9 +50,9 @@ pub record Agree (program : Program) (other : List ℕ) (place : ℕ) : Type 0 w
 abbrev pub Meaningless : List ℕ → Record → Instruction → Type 0
 Meaningless page r (Data operation) = ⊥
 Meaningless page r (Memory access) = ⊥
-Meaningless page r (Cbz imm6 n) = (register r n ≡ 0) × (target_of r.place (pos imm6) ≡ target.Bad)
-Meaningless page r (Cbnz imm6 n) = (register r n ≡ 0 → ⊥) × (target_of r.place (pos imm6) ≡ target.Bad)
-Meaningless page r (Bcc condition imm8) = (condition_holds condition r.flags ≡ true) × (target_of r.place (SInt 8 imm8) ≡ target.Bad)
-Meaningless page r (B imm11) = target_of r.place (SInt 11 (bits imm11 10 0)) ≡ target.Bad
+Meaningless page r (Cbz imm6 n) = (register r n ≡ 0) × (target_of r.place (pos imm6) ≡ None)
+Meaningless page r (Cbnz imm6 n) = (register r n ≡ 0 → ⊥) × (target_of r.place (pos imm6) ≡ None)
+Meaningless page r (Bcc condition imm8) = (condition_holds condition r.flags ≡ true) × (target_of r.place (SInt 8 imm8) ≡ None)
+Meaningless page r (B imm11) = target_of r.place (SInt 11 (bits imm11 10 0)) ≡ None
 Meaningless page r (Service n) = service_of page n ≡ service.Bad
 Meaningless page r Unlisted = Unit {0}

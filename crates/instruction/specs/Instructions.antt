@@ -1,6 +1,6 @@
 -- The definition of an instruction: it reads the program at the place and isn't given the count. A fault, or what is unlisted,
 -- changes nothing.
-use Rattle.std.specs.Prelude.{ℕ, ◌*◌, Bool, not, cond, List, eqb, pos, length}
+use Rattle.std.specs.Prelude.{ℕ, ◌*◌, Bool, not, cond, List, eqb, pos, length, Option, Some, None}
 use Rattle.bits.specs.Fields.{bits}
 use Rattle.bits.specs.Integers.{SInt}
 use Rattle.arm.specs.Conditions.{condition_holds}
@@ -10,9 +10,6 @@ use Rattle.isa.specs.declared.Operation.{Operation}
 use Rattle.isa.specs.declared.Instruction.{Instruction}
 use Rattle.isa.specs.declared.Instruction.TheVariants.{Data, Memory, Cbz, Cbnz, Bcc, B, Service, Unlisted}
 use Rattle.branch.specs.Branches.{target_of}
-use Rattle.branch.specs.declared.Target.{Target}
-use Rattle.branch.specs.declared.Target.TheVariants.{At}
-use Rattle.branch.specs.declared.Target.TheVariants as target
 use Rattle.service.specs.Services.{takes_literal, service_of}
 use Rattle.ending.specs.Endings.{ending_in}
 use Rattle.ending.specs.declared.Ending.{Ending}
@@ -37,12 +34,12 @@ end_at end r place (does w ram) = end (applied r w place) ram
 end_at end r place (fails fault) = faults fault
 
 -- a branch that is taken goes to the first half of its target; one that has none means nothing listed
-unfoldable pub branch_to : Record → List ℕ → Target → Effect
-branch_to r ram target.Bad = unlisted
-branch_to r ram (At k) = goes_on (with_place r (2 * k)) ram
+unfoldable pub branch_to : Record → List ℕ → Option ℕ → Effect
+branch_to r ram None = unlisted
+branch_to r ram (Some k) = goes_on (with_place r (2 * k)) ram
 
 -- one that is not taken goes on behind itself
-unfoldable pub branch_if : Bool → Record → List ℕ → ℕ → Target → Effect
+unfoldable pub branch_if : Bool → Record → List ℕ → ℕ → Option ℕ → Effect
 branch_if taken r ram next t = cond taken (branch_to r ram t) (goes_on (with_place r next) ram)
 
 -- offsets are signed for b and bcc, unsigned for cbz and cbnz

@@ -1,4 +1,3 @@
 pub mod Patterns
 pub mod Lines
 pub mod Classes
-pub mod Fields

@@ -21,7 +21,7 @@ struct Operands {
     condition: u8,
 }
 
-// The class of a halfword, from its top byte alone: the number of its line in `lines16`.
+// The class of a halfword, from its top byte alone: the number of its line in `lines16`. It stays a number, as that line is found by it.
 fn class(t: u8) -> u8
     ensures { result ≡ class_of t }
 {

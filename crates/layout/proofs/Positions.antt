@@ -11,7 +11,7 @@ use Rattle.refusal.proofs.Theorems.{passes_lem}
 use Rattle.layout.specs.StoredForm.{Test, Field, stored_form, form_length, length_of, field_at, width_at, field_rules}
 
 module _ (test : Field → Test) (n kind : ℕ) where
-  -- each of these fields has a value, which passes_lem
+  -- each of these fields has a value, which passes
   abbrev pub AllPass : List Field → List ℕ → Type 0
   AllPass [] [] = Unit {0}
   AllPass [] (x ∷ values) = ⊥
@@ -41,7 +41,7 @@ module _ (test : Field → Test) (n kind : ℕ) where
   each_passes (f ∷ fields) (x ∷ values) at (suc i) e l m =
       each_passes fields values (at + f.width) i (passes_lem (test f kind x) n (at ∷ []) _ e).1 (le_of_suc-le-suc l) (le_of_suc-le-suc m)
 
-  -- and what passes_lem every one is accepted
+  -- and what passes every one is accepted
   pub none_fails : (fields : List Field) (values : List ℕ) (at : ℕ) → ((i : ℕ) → i < length fields → test (field_at fields i) kind (get_or values i 0) ≡ true)
       → decision (field_rules test n kind at fields values) ≡ accepted
   none_fails [] values at h = refl

@@ -1,5 +1,5 @@
 -- The stored form of a record: 44 bytes, a list of fields from which the positions follow. The short form is of the same list.
-use Rattle.std.specs.Prelude.{ℕ, ◌+◌, ◌*◌, ◌^◌, zero, suc, ◌<◌, Bool, true, false, not, cond, List, [], ◌∷◌, ◌++◌, eqb, ltb, leb, length, get_or, take, drop, ◌≡◌}
+use Rattle.std.specs.Prelude.{ℕ, ◌+◌, ◌*◌, ◌^◌, ◌<◌, Bool, true, false, not, cond, List, [], ◌∷◌, ◌++◌, eqb, ltb, leb, length, get_or, take, drop, ◌≡◌}
 use Rattle.bits.specs.Fields.{bit}
 use Rattle.arm.specs.declared.Flags.{Flags}
 use Rattle.endian.specs.LittleEndian.{load_le, bytes_of}

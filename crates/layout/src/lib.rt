@@ -7,13 +7,13 @@ ghost use Rattle.endian.specs.LittleEndian.{width_of};
 ghost use Rattle.refusal.specs.Refusals.{decision, decision_of};
 ghost use Rattle.state.specs.Record.{kind_of, offset_of};
 ghost use Rattle.layout.specs.StoredForm.{stored_form, encode, decode};
-ghost use Rattle.layout.specs.StoredForm.{base_of, bit_of, flags_number, flags_of, values_of, record_of};
+ghost use Rattle.layout.specs.StoredForm.{base_of, flags_number, flags_of, values_of, record_of};
 ghost use Rattle.layout.specs.StoredForm.{record_in, room_with, offset_stands, stand_rules, held_rules};
 ghost use Rattle.layout.specs.StoredForm.{width_at};
 
 use arm::Flags;
 use endian::Size;
-use refusal::{Refusal, Verdict};
+use refusal::Refusal;
 use state::{Base, Record};
 
 // ---- values to bytes and back
@@ -47,13 +47,10 @@ fn write_values(values: [u32; 13], room: &mut [u8])
     ensures { room.new ≡ encode stored_form values }
 {
     let mut at: u32 = 0;
-    let mut i: usize = 0;
-    while i < 13 {
+    for i in 0..13 {
         let size = size_of(i);
-        let x = values[i];
-        endian::store(&mut *room, at, size, x);
+        endian::store(&mut *room, at, size, values[i]);
         at += endian::width(size) as u32;
-        i += 1;
     }
 }
 
@@ -63,20 +60,17 @@ pub fn values_in(bytes: &[u8]) -> [u32; 13]
 {
     let mut values = [0u32; 13];
     let mut at: u32 = 0;
-    let mut i: usize = 0;
-    while i < 13 {
+    for i in 0..13 {
         let size = size_of(i);
-        let x = endian::load(bytes, at, size);
-        values[i] = x;
+        values[i] = endian::load(bytes, at, size);
         at += endian::width(size) as u32;
-        i += 1;
     }
     values
 }
 
 // ---- a record to values and back
 
-// 0 none, 1 RAM, 2 external
+// 0 none, 1 RAM, 2 external: a number, as the stored form and the C interface have it.
 pub fn kind_of(base: Base) -> u32
     ensures { result ≡ kind_of base }
 {
@@ -93,8 +87,7 @@ pub fn offset_of(base: Base) -> u32
 {
     match base {
         Base::Nothing => 0,
-        Base::Ram(offset) => offset,
-        Base::External(offset) => offset,
+        Base::Ram(offset) | Base::External(offset) => offset,
     }
 }
 
@@ -108,12 +101,6 @@ fn base_of(kind: u32, offset: u32) -> Base
     }
 }
 
-fn bit_of(t: bool) -> u32
-    ensures { result ≡ bit_of t }
-{
-    if t { 1 } else { 0 }
-}
-
 fn is_set(x: u32, n: u32) -> bool
     ensures { result ≡ bit x n }
 {
@@ -124,7 +111,7 @@ fn is_set(x: u32, n: u32) -> bool
 fn flags_number(f: Flags) -> u32
     ensures { result ≡ flags_number f }
 {
-    8 * bit_of(f.n) + 4 * bit_of(f.z) + 2 * bit_of(f.c) + bit_of(f.v)
+    8 * u32::from(f.n) + 4 * u32::from(f.z) + 2 * u32::from(f.c) + u32::from(f.v)
 }
 
 fn flags_of(x: u32) -> Flags
@@ -141,16 +128,13 @@ fn flags_of(x: u32) -> Flags
 pub fn values_of(r: Record) -> [u32; 13]
     ensures { result ≡ values_of r }
 {
-    let regs = r.regs;
-    let base = r.base;
-    let flags = r.flags;
-    let kind = kind_of(base);
-    let offset = offset_of(base);
-    let place = r.place as u32;
-    let number = flags_number(flags);
+    let [r0, r1, r2, r3, r4, r5, r6, r7] = r.regs;
+    let kind = kind_of(r.base);
+    let offset = offset_of(r.base);
+    let place = u32::from(r.place);
+    let flags = flags_number(r.flags);
     [
-        regs[0], regs[1], regs[2], regs[3], regs[4], regs[5], regs[6], regs[7], r.sp, kind, offset,
-        place, number,
+        r0, r1, r2, r3, r4, r5, r6, r7, r.sp, kind, offset, place, flags,
     ]
 }
 
@@ -159,17 +143,13 @@ fn record_of(values: [u32; 13]) -> Record
     requires { get_or values 11 0 < 256 ^ 2 }
     ensures { result ≡ record_of values }
 {
-    let regs = [
-        values[0], values[1], values[2], values[3], values[4], values[5], values[6], values[7],
-    ];
-    let base = base_of(values[9], values[10]);
-    let flags = flags_of(values[12]);
+    let [r0, r1, r2, r3, r4, r5, r6, r7, ..] = values;
     Record {
-        regs,
+        regs: [r0, r1, r2, r3, r4, r5, r6, r7],
         sp: values[8],
-        flags,
+        flags: flags_of(values[12]),
         place: values[11] as u16,
-        base,
+        base: base_of(values[9], values[10]),
     }
 }
 
@@ -214,27 +194,27 @@ fn offset_stands(kind: u32, offset: u32) -> bool
 }
 
 // The values are some record's, or where the first field starts that is none's.
-fn values_stand(values: [u32; 13]) -> Verdict
+fn values_stand(values: [u32; 13]) -> Result<(), Refusal>
     ensures { decision_of result ≡ decision (stand_rules values) }
 {
     if values[9] > 2 {
-        return Verdict::Refused(Refusal::NoRecord(36));
+        return Err(Refusal::NoRecord(36));
     }
     if !offset_stands(values[9], values[10]) {
-        return Verdict::Refused(Refusal::NoRecord(37));
+        return Err(Refusal::NoRecord(37));
     }
     if values[12] > 15 {
-        return Verdict::Refused(Refusal::NoRecord(43));
+        return Err(Refusal::NoRecord(43));
     }
-    Verdict::Accepted
+    Ok(())
 }
 
 // The bytes hold some record, or where they hold none.
-pub fn holds_record(bytes: &[u8]) -> Verdict
+pub fn holds_record(bytes: &[u8]) -> Result<(), Refusal>
     ensures { decision_of result ≡ decision (held_rules bytes.now) }
 {
     if bytes.len() != 44 {
-        return Verdict::Refused(Refusal::NoRecord(0));
+        return Err(Refusal::NoRecord(0));
     }
     values_stand(values_in(bytes))
 }

@@ -1,7 +1,7 @@
 -- Numbers in groups of seven bits, lowest group first, top bit set while more follow, always the shortest: unsigned LEB128.
-use Rattle.std.specs.Prelude.{ℕ, zero, suc, ◌+◌, ◌*◌, ◌/◌, ◌%◌, cond, List, [], ◌∷◌, eqb, ltb}
-use Rattle.leb128.specs.declared.Found.{Found}
-use Rattle.leb128.specs.declared.Found.TheVariants.{Number, CutOff, TooManyGroups, NotShortest}
+use Rattle.std.specs.Prelude.{ℕ, zero, suc, ◌+◌, ◌*◌, ◌/◌, ◌%◌, cond, List, [], ◌∷◌, eqb, ltb, Result, Ok, Err}
+use Rattle.leb128.specs.declared.NoNumber.{NoNumber}
+use Rattle.leb128.specs.declared.NoNumber.TheVariants.{CutOff, TooManyGroups, NotShortest}
 
 -- a number has at most five groups, so up to 35 bits
 abbrev pub most_groups : ℕ
@@ -44,8 +44,8 @@ read_number bytes = number_in most_groups bytes
 
 -- ---- the code's cases
 
-abbrev pub seen_found : Found → NumberAnswer
-seen_found (Number x n) = number x n
-seen_found CutOff = cut_off
-seen_found TooManyGroups = too_many_groups
-seen_found NotShortest = not_shortest
+abbrev pub seen_found : Result (ℕ × ℕ) NoNumber → NumberAnswer
+seen_found (Ok (x, n)) = number x n
+seen_found (Err CutOff) = cut_off
+seen_found (Err TooManyGroups) = too_many_groups
+seen_found (Err NotShortest) = not_shortest

@@ -7,10 +7,12 @@ use native.Mathlib.Nat.{add-zero}
 use native.Mathlib.Numerals.{add-one}
 use native.Mathlib.Omega.{arith}
 use lib.Dec.{ltb}
-use Rattle.refusal.specs.declared.Verdict.{Verdict}
-use Rattle.refusal.specs.declared.Verdict.TheVariants.{Accepted, Refused}
+use Rattle.std.specs.Prelude.{Result, Ok, Err}
+use Rattle.std.specs.Result.{result_unwrap_or}
+use Rattle.prefix.specs.declared.LargestSuccessor.{LargestSuccessor}
+use Rattle.prefix.specs.declared.LargestSuccessor.TheVariants.{Bad}
 use Rattle.refusal.specs.declared.Refusal.{Refusal}
-use Rattle.refusal.specs.Refusals.{accepted, refusal_number, refusal_values, decision_of}
+use Rattle.refusal.specs.Refusals.{accepted, refusal_number, refusal_values}
 use Rattle.refusal.proofs.Theorems.{passes_lem}
 use Rattle.page.specs.Page.{page_fits, bundles_in, first_of, second_of}
 use Rattle.platform.specs.Programs.{default_program}
@@ -18,8 +20,6 @@ use Rattle.platform.proofs.Theorems.{program_accepts}
 use Rattle.prefix.specs.LargestSuccessor.{reading_of}
 use Rattle.bundle.specs.Reader.{ReaderAnswer, read_bundle, seen_read}
 use Rattle.bundle.proofs.Theorems.{read_accepted}
-use Rattle.bundle.specs.declared.Read.{Read}
-use Rattle.count.specs.declared.Counted.{Counted}
 use Rattle.count.specs.Count.{count_of, CountAnswer, count_program, seen_count}
 use Rattle.refusal_line.specs.RefusalLine.{refused_text}
 use Rattle.lister_lines.specs.Lines.{head_text, bundle_text}
@@ -44,27 +44,23 @@ line_more page k =
 
 -- ---- what the reader and the count answer
 
-pub line_is : {first second count : ℕ} (page : List ℕ) (k : ℕ) (read : Read)
+pub line_is : {first second count : ℕ} {largest : LargestSuccessor} (page : List ℕ) (k : ℕ) (read : Result LargestSuccessor Refusal)
     → page_fits page ≡ true → count ≡ count_of (default_program page) → k < bundles_in page
-    → first ≡ first_of page k → second ≡ second_of page k → seen_read read ≡ read_bundle (default_program page) k
-    → bundle_text k first second (ltb k count) (reading_of read.largest) ≡ line_of page k
-line_is page k read f c l p q r = rw (p, q, c, ap (λ (a : ReaderAnswer). a.reading) r, read_accepted (default_program page) k (program_accepts (default_program page) refl f) l)
+    → first ≡ first_of page k → second ≡ second_of page k
+    → seen_read read ≡ read_bundle (default_program page) k → largest ≡ result_unwrap_or read Bad
+    → bundle_text k first second (ltb k count) (reading_of largest) ≡ line_of page k
+line_is page k read f c l p q r e = rw (p, q, c, e, ap (λ (a : ReaderAnswer). a.reading) r, read_accepted (default_program page) k (program_accepts (default_program page) refl f) l)
 
-decision_is : {counted : Counted} {verdict : Verdict} (page : List ℕ) → seen_count counted ≡ count_program (default_program page) → counted.verdict ≡ verdict
-    → (count_program (default_program page)).decision ≡ decision_of verdict
-decision_is page e v = sym (ap (λ (a : CountAnswer). a.decision) e) ∙ ap decision_of v
-
-pub accepted_count : {counted : Counted} (page : List ℕ) → seen_count counted ≡ count_program (default_program page) → counted.verdict ≡ Accepted
-    → (page_fits page ≡ true) × (counted.count ≡ count_of (default_program page))
-accepted_count page e v =
-    let f = (passes_lem (page_fits page) 1 [] accepted (decision_is page e v)).0 in
+pub accepted_count : {count : ℕ} (page : List ℕ) → seen_count (Ok count) ≡ count_program (default_program page)
+    → (page_fits page ≡ true) × (count ≡ count_of (default_program page))
+accepted_count page e =
+    let f = (passes_lem (page_fits page) 1 [] accepted (sym (ap (λ (a : CountAnswer). a.decision) e))).0 in
     (f, ap (λ (a : CountAnswer). a.count) e ∙ rw f)
 
-pub listing_accepted : {counted : Counted} (page : List ℕ) → seen_count counted ≡ count_program (default_program page) → counted.verdict ≡ Accepted
-    → head_text (bundles_in page) counted.count ++ bundle_lines page 0 (bundles_in page) ≡ listing_of page
-listing_accepted page e v = rw (accepted_count page e v).1 (sym (ap (listing_by page) (decision_is page e v)))
+pub listing_accepted : {count : ℕ} (page : List ℕ) → seen_count (Ok count) ≡ count_program (default_program page)
+    → head_text (bundles_in page) count ++ bundle_lines page 0 (bundles_in page) ≡ listing_of page
+listing_accepted page e = rw (accepted_count page e).1 (ap (λ (a : CountAnswer). listing_by page a.decision) e)
 
-pub listing_refused : {counted : Counted} {refusal : Refusal} (page : List ℕ)
-    → seen_count counted ≡ count_program (default_program page) → counted.verdict ≡ Refused refusal
+pub listing_refused : (refusal : Refusal) (page : List ℕ) → seen_count (Err refusal) ≡ count_program (default_program page)
     → refused_text (refusal_number refusal) (refusal_values refusal) ≡ listing_of page
-listing_refused page e v = sym (ap (listing_by page) (decision_is page e v))
+listing_refused refusal page e = ap (λ (a : CountAnswer). listing_by page a.decision) e

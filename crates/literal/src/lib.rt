@@ -33,6 +33,7 @@ pub enum Service {
 }
 
 // A literal with bit 31 clear.
+#[tactic(auto, unfolding(crate::specs::Literals::call_of))]
 fn call(w: u32) -> Service
     ensures { result ≡ call_of w }
 {
@@ -47,6 +48,7 @@ fn call(w: u32) -> Service
 }
 
 // A literal whose top bits are 10.
+#[tactic(auto, unfolding(crate::specs::Literals::syscall_of))]
 fn syscall(w: u32) -> Service
     ensures { result ≡ syscall_of w }
 {
@@ -63,6 +65,7 @@ fn syscall(w: u32) -> Service
 }
 
 // A literal whose top bits are 110 or 111.
+#[tactic(auto, unfolding(crate::specs::Literals::address_operation_of))]
 fn address_operation(w: u32) -> Service
     ensures { result ≡ address_operation_of w }
 {
@@ -74,26 +77,18 @@ fn address_operation(w: u32) -> Service
         0 => Service::LongBranch(address),
         1 => Service::Preload,
         2 => Service::SetBase(address),
-        3 => if external == 0 {
-            Service::LowerSp(a)
-        } else {
-            Service::Bad
-        },
-        4 => if external == 0 {
-            Service::StoreAtSp(bits::field(a, 21, 3) as u8, bits::field(a, 0, 21))
-        } else {
-            Service::Bad
-        },
-        5 => if external == 0 {
-            Service::LoadAtSp(bits::field(a, 21, 3) as u8, bits::field(a, 0, 21))
-        } else {
-            Service::Bad
-        },
+        3 if external == 0 => Service::LowerSp(a),
+        4 if external == 0 => Service::StoreAtSp(
+            bits::field(a, 21, 3) as u8,
+            bits::field(a, 0, 21),
+        ),
+        5 if external == 0 => Service::LoadAtSp(bits::field(a, 21, 3) as u8, bits::field(a, 0, 21)),
         _ => Service::Bad,
     }
 }
 
 // What a literal word stands for.
+#[tactic(auto, unfolding(crate::specs::Literals::literal_of))]
 pub fn literal(w: u32) -> Service
     ensures { result ≡ literal_of w }
 {

@@ -1,15 +1,15 @@
 -- A turn of the run.
+use Rattle.std.specs.Prelude.{Ok, Option, Some, None}
+use Rattle.std.specs.Prelude as std
 use Prim.Native.Nat.{ℕ, ◌+◌, ◌-◌, ◌/◌, ◌<◌}
 use mathlib.Core.Bool.{Bool, true, false, cond, true≢false}
-use mathlib.Core.List.{List, [], ◌∷◌}
-use types.Run.{OneOf, miss}
+use mathlib.Core.List.{List}
 use mathlib.Core.Path.{◌≡◌, refl, sym, ap, ◌∙◌}
 use lib.Dec.{ltb}
 use lib.ListN.{length, set, length-set}
 use borrow.Author.Tests.{ltb-true}
 use Rattle.refusal.specs.Refusals.{decision_of}
-use Rattle.refusal.specs.declared.Verdict.{Verdict}
-use Rattle.refusal.specs.declared.Verdict.TheVariants.{Accepted}
+use Rattle.refusal.specs.declared.Refusal.{Refusal}
 use Rattle.page.specs.Page.{page_fits, first_of, second_of}
 use Rattle.admission.specs.RunRefusals.{run_decision}
 use Rattle.admission.proofs.Theorems.{accepted_all}
@@ -22,8 +22,6 @@ use Rattle.platform.proofs.Theorems.{program_accepted}
 use Rattle.memory.specs.Faults.{fault_number}
 use Rattle.writing.specs.Writes.{written_to, applied}
 use Rattle.state.specs.declared.Record.{Record}
-use Rattle.writing.specs.declared.Write.{Write}
-use Rattle.writing.specs.declared.Write.TheVariants.{NoRegister, Register}
 use Rattle.state.proofs.Registers.{set_eighth}
 use Rattle.compute.specs.Computed.{computed}
 use Rattle.compute.specs.declared.Computed.{Computed}
@@ -70,10 +68,6 @@ turns setting total steps r ram left i x end s result l f h e w inv =
 
 -- ---- a data-processing instruction, in place
 
--- an instruction of the tags 1 to 7 is none
-pub other_tag : OneOf (1 ∷ 2 ∷ 3 ∷ 4 ∷ 5 ∷ 6 ∷ 7 ∷ []) 0 → ⊥
-other_tag h = miss (1 ∷ 2 ∷ 3 ∷ 4 ∷ 5 ∷ 6 ∷ 7 ∷ []) 0 tt h
-
 pub data_inside : (program : Program) (place : ℕ) (operation : Operation) → instruction_at program place ≡ Data operation
     → place / 2 < length program.page / 4
 unfolding instruction_at
@@ -90,19 +84,19 @@ data_inside program place operation =
     by false i e h = absurd (true≢false cc)
 
 -- the record with one register written at most
-abbrev pub registered : Record → Write → Record
+abbrev pub registered : Record → Option (ℕ × ℕ) → Record
 registered r w = record { regs = written_to r.regs w; sp = r.sp; flags = r.flags; place = r.place; base = r.base }
 
-pub registered_length : (r s : Record) (w : Write) → s ≡ registered r w → length r.regs ≡ 8 → length s.regs ≡ 8
-registered_length r s NoRegister e l = rw e l
-registered_length r s (Register k x) e l = rw (e, length-set) l
+pub registered_length : (r s : Record) (w : Option (ℕ × ℕ)) → s ≡ registered r w → length r.regs ≡ 8 → length s.regs ≡ 8
+registered_length r s None e l = rw e l
+registered_length r s (Some (k, x)) e l = rw (e, length-set) l
 
-pub set_written : (r : Record) (w : Write) (k x : ℕ) (after : List ℕ) → w ≡ Register k x → length r.regs ≡ 8
+pub set_written : (r : Record) (w : Option (ℕ × ℕ)) (k x : ℕ) (after : List ℕ) → w ≡ Some (k, x) → length r.regs ≡ 8
     → after ≡ cond (ltb k 8) (set r.regs k x) r.regs
     → record { regs = after; sp = r.sp; flags = r.flags; place = r.place; base = r.base } ≡ registered r w
 set_written r w k x after e l h = rw (e, h, set_eighth r.regs k x l)
 
-pub none_written : (r : Record) (w : Write) → w ≡ NoRegister → r ≡ registered r w
+pub none_written : (r : Record) (w : Option (ℕ × ℕ)) → w ≡ None → r ≡ registered r w
 none_written r w e = rw e
 
 pub data_turn : (setting : Setting) (total steps : ℕ) (r s : Record) (ram : List ℕ) (operation : Operation) (c : Computed) (next : ℕ)
@@ -120,6 +114,6 @@ data_turn setting total steps r s ram operation c next result l i e n w h =
 -- ---- a call
 
 -- once a run is accepted, so is its page
-pub page_accepted : (setting : Setting) (r : Record) (ram : List ℕ) (v : Verdict) → decision_of v ≡ run_decision setting r ram → v ≡ Accepted
+pub page_accepted : (setting : Setting) (r : Record) (ram : List ℕ) (v : std.Result Unit Refusal) → decision_of v ≡ run_decision setting r ram → v ≡ Ok tt
     → page_fits setting.program.page ≡ true
 page_accepted setting r ram v e h = (program_accepted setting.program (accepted_all setting r ram (sym e ∙ ap decision_of h)).0).1

@@ -23,8 +23,12 @@ ghost use Rattle.hosting.specs.Crossed.{answered};
 ghost use Rattle.hosting.specs.HostRuns.{host_run, host_image_run};
 ghost use Rattle.marshbodkin.specs.Version.{library_version};
 
-use platform::Platform;
+use image::Image;
+use image_runs::ImageSetting;
+use platform::{Platform, Program, Setting};
+use prefix::LargestSuccessor;
 use refusal::Refusal;
+use state::Base;
 use window::Window;
 
 // ---- pages and bases
@@ -37,10 +41,9 @@ pub fn mb_raw_count(page: &[u8], never_return: u64, profile: u32, count: &mut u3
         never_return,
         profile,
     };
-    let counted = count::count(page, platform);
-    let verdict = counted.verdict;
-    *count = counted.count;
-    crossing::code_of(verdict)
+    let counted = count::count(&Program { page, platform });
+    *count = counted.unwrap_or(0);
+    crossing::code_of(counted)
 }
 
 // Bundle k of a program: 0 bad, 1 no successor, 2 the largest successor.
@@ -60,12 +63,11 @@ pub fn mb_raw_read_bundle(
         never_return,
         profile,
     };
-    let read = bundle::read_bundle(page, platform, k);
-    let verdict = read.verdict;
-    let successor = read.largest;
+    let read = bundle::read_bundle(&Program { page, platform }, k);
+    let successor = read.unwrap_or(LargestSuccessor::Bad);
     *kind = crossing::largest_kind(successor);
     *largest = crossing::largest_number(successor);
-    crossing::code_of(verdict)
+    crossing::code_of(read)
 }
 
 // The base of an address: 0 none, 1 RAM, 2 external, and the offset.
@@ -75,11 +77,10 @@ pub fn mb_raw_validate(v: u32, external: &[u8], kind: &mut u32, offset: &mut u32
         × (offset.new ≡ (validate_base v (length external.now)).offset) }
 {
     let validated = state::validate(v, external);
-    let verdict = validated.verdict;
-    let base = validated.base;
+    let base = validated.unwrap_or(Base::Nothing);
     *kind = layout::kind_of(base);
     *offset = layout::offset_of(base);
-    crossing::code_of(verdict)
+    crossing::code_of(validated)
 }
 
 // ---- records
@@ -91,7 +92,7 @@ pub fn mb_raw_fresh(bytes: &mut [u8]) -> u32
     if layout::write(state::fresh_record(), bytes) {
         0
     } else {
-        refusal::number(Refusal::FormLength) as u32
+        u32::from(u8::from(Refusal::FormLength))
     }
 }
 
@@ -106,7 +107,7 @@ pub fn mb_raw_store(bytes: &[u8], room: &mut [u8], position: &mut u32) -> u32
     crossing::code_of(verdict)
 }
 
-// Reads a record back.
+// Reads a record back. As storing, which C has under a name of its own.
 pub fn mb_raw_load(stored: &[u8], bytes: &mut [u8], position: &mut u32) -> u32
     ensures { (result ≡ code_of (form_decision stored.now bytes.old))
         × (position.new ≡ position_of (form_decision stored.now bytes.old))
@@ -127,10 +128,9 @@ pub fn mb_raw_pack(stored: &[u8], room: &mut [u8], length: &mut usize, position:
         × (room.new ≡ room_after_pack stored.now room.old) }
 {
     let packed = packing::pack(stored, room);
-    let verdict = packed.verdict;
-    *length = packed.length;
-    *position = crossing::position_of(verdict);
-    crossing::code_of(verdict)
+    *length = packed.unwrap_or(0);
+    *position = crossing::position_of(packed);
+    crossing::code_of(packed)
 }
 
 // The stored form of a record in the short one goes to the room.
@@ -174,10 +174,14 @@ pub fn mb_raw_run(
         start: window_start,
         end: window_end,
     };
-    let hosted = hosting::run(page, platform, ram, external, window, bytes, budget);
-    let stop = hosted.stop;
+    let setting = Setting {
+        program: Program { page, platform },
+        external,
+        window,
+    };
+    let hosted = hosting::run(&setting, ram, bytes, budget);
     *steps = hosted.steps;
-    crossing::tell(stop, kind, value, literal, position)
+    crossing::tell(hosted.stop, kind, value, literal, position)
 }
 
 // A step is a run with budget 1.
@@ -283,12 +287,18 @@ pub fn mb_raw_image_run(
         start: window_start,
         end: window_end,
     };
-    let hosted = hosting::run_in_image(
-        image, index, platform, number, ram, external, window, bytes, budget,
-    );
-    let stop = hosted.stop;
+    let setting = ImageSetting {
+        image: Image {
+            pages: image,
+            index,
+            platform,
+        },
+        external,
+        window,
+    };
+    let hosted = hosting::run_in_image(&setting, number, ram, bytes, budget);
     *steps = hosted.steps;
-    crossing::tell(stop, kind, value, literal, position)
+    crossing::tell(hosted.stop, kind, value, literal, position)
 }
 
 // A step is a run with budget 1.

@@ -1,5 +1,6 @@
 -- What accesses come to by two windows and in two RAMs, of which the second window holds what the first does, and the RAMs stay
 -- related: the one law by which reads and writes keep to a window.
+use Rattle.std.specs.Prelude.{Result, Ok, Err}
 use Prim.Native.Nat.{ℕ, ◌+◌, ◌%◌}
 use mathlib.Core.Bool.{Bool, true, false, cond, true≢false}
 use mathlib.Core.List.{List}
@@ -15,12 +16,6 @@ use Rattle.memory.specs.Faults.{fault_number}
 use Rattle.memory.specs.Memory.{inside_ram, ram_access, loaded_if, ram_loaded, external_loaded, loaded_by, signed_loaded}
 use Rattle.memory.specs.declared.Fault.{Fault}
 use Rattle.memory.specs.declared.Fault.TheVariants.{NoBase, PastRam, OffExternalPage, OutsideWindow}
-use Rattle.memory.specs.declared.Loaded.{Loaded}
-use Rattle.memory.specs.declared.Loaded.TheVariants.{Value}
-use Rattle.memory.specs.declared.Loaded.TheVariants as loaded
-use Rattle.memory.specs.declared.Attempt.{Attempt}
-use Rattle.memory.specs.declared.Attempt.TheVariants.{Done}
-use Rattle.memory.specs.declared.Attempt.TheVariants as attempt
 
 -- ---- two things that accesses come to: `Both` relates them where no fault is met, and `failing` is what a fault makes of one
 
@@ -53,38 +48,38 @@ pub record Related (w v : Window) (S : List ℕ → List ℕ → Type 0) : Type 
 -- ---- accesses
 
 -- both are done, and the first window holds the access
-abbrev pub BothPass : Window → ℕ → ℕ → Attempt → Attempt → Type 0
-BothPass w at bytes x y = (x ≡ Done) × (y ≡ Done) × (inside_window w at bytes ≡ true)
+abbrev pub BothPass : Window → ℕ → ℕ → Result Unit Fault → Result Unit Fault → Type 0
+BothPass w at bytes x y = (x ≡ Ok tt) × (y ≡ Ok tt) × (inside_window w at bytes ≡ true)
 
-abbrev pub BothLoaded : Loaded → Loaded → Type 0
-BothLoaded x y = (n : ℕ) × (x ≡ Value n) × (y ≡ Value n)
+abbrev pub BothLoaded : Result ℕ Fault → Result ℕ Fault → Type 0
+BothLoaded x y = (n : ℕ) × (x ≡ Ok n) × (y ≡ Ok n)
 
-abbrev pub LoadsAlike : Window → Window → Loaded → Loaded → Type 0
-LoadsAlike w v = Alike w v loaded.Fails BothLoaded
+abbrev pub LoadsAlike : Window → Window → Result ℕ Fault → Result ℕ Fault → Type 0
+LoadsAlike w v = Alike w v Err BothLoaded
 
 -- what doesn't read RAM
 pub same_loads : (w v : Window) (t : Bool) (n : ℕ) (f : Fault) → eqb (fault_number f) 7 ≡ false
-    → LoadsAlike w v (cond t (Value n) (loaded.Fails f)) (cond t (Value n) (loaded.Fails f))
+    → LoadsAlike w v (cond t (Ok n) (Err f)) (cond t (Ok n) (Err f))
 same_loads w v true n f l = both (n, refl, refl)
 same_loads w v false n f l = fault f l refl refl
 
 -- the sign extended
-pub signed_loads : (w v : Window) (size : Size) (x y : Loaded) → LoadsAlike w v x y → LoadsAlike w v (signed_loaded size x) (signed_loaded size y)
+pub signed_loads : (w v : Window) (size : Size) (x y : Result ℕ Fault) → LoadsAlike w v x y → LoadsAlike w v (signed_loaded size x) (signed_loaded size y)
 signed_loads w v size =
-    alike_map w v loaded.Fails loaded.Fails BothLoaded BothLoaded (signed_loaded size) (signed_loaded size) (λ e. refl) (λ e. refl)
+    alike_map w v Err Err BothLoaded BothLoaded (signed_loaded size) (signed_loaded size) (λ e. refl) (λ e. refl)
     (λ x y l. (_, ap (signed_loaded size) l.1, ap (signed_loaded size) l.2))
 
 module _ (w v : Window) (S : List ℕ → List ℕ → Type 0) (h : Related w v S) where
   pub accesses : (at bytes : ℕ) (past : Fault) → eqb (fault_number past) 7 ≡ false
-      → Alike w v attempt.Fails (BothPass w at bytes) (ram_access w at bytes past) (ram_access v at bytes past)
+      → Alike w v Err (BothPass w at bytes) (ram_access w at bytes past) (ram_access v at bytes past)
   unfolding ram_access
   accesses at bytes past n = go (inside_ram at bytes) (inside_window w at bytes) (inside_window v at bytes) refl refl refl
     where
-      by : Bool → Bool → Attempt
-      by i p = cond i (cond p Done (attempt.Fails OutsideWindow)) (attempt.Fails past)
+      by : Bool → Bool → Result Unit Fault
+      by i p = cond i (cond p (Ok tt) (Err OutsideWindow)) (Err past)
 
       go : (i p q : Bool) → inside_ram at bytes ≡ i → inside_window w at bytes ≡ p → inside_window v at bytes ≡ q
-          → Alike w v attempt.Fails (BothPass w at bytes) (by i p) (by i q)
+          → Alike w v Err (BothPass w at bytes) (by i p) (by i q)
       go false p q ei ep eq = fault past n refl refl
       go true true true ei ep eq = both (refl, refl, ep)
       go true true false ei ep eq = absurd (true≢false (sym (h.wider at bytes ei ep) ∙ eq))
@@ -96,14 +91,14 @@ module _ (w v : Window) (S : List ℕ → List ℕ → Type 0) (h : Related w v 
         → LoadsAlike w v (ram_loaded w a at size past) (ram_loaded v b at size past)
     unfolding ram_loaded
     ram_loads at size past n =
-        alike_map w v attempt.Fails loaded.Fails (BothPass w at bytes) BothLoaded (found a) (found b) (λ e. refl) (λ e. refl)
-        (λ x y d. (load_le bytes a at, ap (found a) d.0, ap (found b) d.1 ∙ ap Value (sym (h.reads a b s at bytes d.2))))
+        alike_map w v Err Err (BothPass w at bytes) BothLoaded (found a) (found b) (λ e. refl) (λ e. refl)
+        (λ x y d. (load_le bytes a at, ap (found a) d.0, ap (found b) d.1 ∙ ap Ok (sym (h.reads a b s at bytes d.2))))
         _ _ (accesses at bytes past n)
       where
         bytes : ℕ
         bytes = width_of size
 
-        found : List ℕ → Attempt → Loaded
+        found : List ℕ → Result Unit Fault → Result ℕ Fault
         found ram t = loaded_if t (load_le bytes ram at)
 
     pub base_loads : (base : Base) (needs_ram : Bool) (external : List ℕ) (imm12 : ℕ) (size : Size)

@@ -1,4 +1,5 @@
 -- What an access to RAM says of its two tests, and what a store keeps.
+use Rattle.std.specs.Prelude.{Result, Ok, Err}
 use Prim.Native.Nat.{ℕ, ◌+◌, ◌≤◌}
 use native.Mathlib.Omega.{arith}
 use mathlib.Core.Bool.{Bool, true, false, cond, true≢false}
@@ -14,8 +15,6 @@ use Rattle.state.specs.declared.Base.TheVariants.{Nothing, Ram, External}
 use Rattle.memory.specs.Memory.{inside_ram, ram_access, after_if, ram_stored, ram_after, after_store_by}
 use Rattle.memory.specs.declared.Fault.{Fault}
 use Rattle.memory.specs.declared.Fault.TheVariants.{PastRam, OutsideWindow}
-use Rattle.memory.specs.declared.Attempt.{Attempt}
-use Rattle.memory.specs.declared.Attempt.TheVariants.{Done, Fails}
 
 -- the window that is all of RAM holds what lies in RAM
 pub whole_window : (at bytes : ℕ) → inside_window whole_ram at bytes ≡ inside_ram at bytes
@@ -24,31 +23,31 @@ whole_window at bytes = rw (le-leb 0 at (omega arith))
 
 -- ---- by the two tests, of which the code makes the first by that window
 
-abbrev by : Bool → Bool → Fault → Attempt
-by ram window past = cond ram (cond window Done (Fails OutsideWindow)) (Fails past)
+abbrev by : Bool → Bool → Fault → Result Unit Fault
+by ram window past = cond ram (cond window (Ok tt) (Err OutsideWindow)) (Err past)
 
-both_passed : (ram window : Bool) (past : Fault) → by ram window past ≡ Done → (ram ≡ true) × (window ≡ true)
+both_passed : (ram window : Bool) (past : Fault) → by ram window past ≡ Ok tt → (ram ≡ true) × (window ≡ true)
 both_passed true true past e = (refl, refl)
 both_passed true false past e = absurd (true≢false cc)
 both_passed false window past e = absurd (true≢false cc)
 
 module _ (window : Window) (at bytes : ℕ) (past : Fault) where
   pub past_ram : (whole : Window) (ram : Bool) → whole ≡ whole_ram → ram ≡ inside_window whole at bytes → ram ≡ false
-      → Fails past ≡ ram_access window at bytes past
+      → Err past ≡ ram_access window at bytes past
   unfolding ram_access
   past_ram whole ram e t f = rw (← whole_window at bytes, ← e, ← t, f)
 
   pub in_ram : (whole : Window) (ram inside passed : Bool) → whole ≡ whole_ram → ram ≡ inside_window whole at bytes → ram ≡ true
-      → inside ≡ inside_window window at bytes → inside ≡ passed → cond passed Done (Fails OutsideWindow) ≡ ram_access window at bytes past
+      → inside ≡ inside_window window at bytes → inside ≡ passed → cond passed (Ok tt) (Err OutsideWindow) ≡ ram_access window at bytes past
   unfolding ram_access
   in_ram whole ram inside passed e t f i p = rw (← whole_window at bytes, ← e, ← t, f, ← p, i)
 
-  pub done : ram_access window at bytes past ≡ Done → (inside_ram at bytes ≡ true) × (inside_window window at bytes ≡ true)
+  pub done : ram_access window at bytes past ≡ Ok tt → (inside_ram at bytes ≡ true) × (inside_window window at bytes ≡ true)
   unfolding ram_access
   done = both_passed (inside_ram at bytes) (inside_window window at bytes) past
 
   -- its offset is small
-  pub done_near : ram_access window at bytes past ≡ Done → at ≤ 32768
+  pub done_near : ram_access window at bytes past ≡ Ok tt → at ≤ 32768
   done_near e = omega (arith, leb-true (at + bytes) 32768 (done e).0)
 
 -- ---- what every store keeps, the RAM after one has too
@@ -59,9 +58,9 @@ module _ (P : List ℕ → Type 0) (window : Window) (ram : List ℕ) (x : ℕ) 
   unfolding ram_after
   ram_keeps at size past = go (ram_stored window at size past)
     where
-      go : (t : Attempt) → P (after_if t (store_le (width_of size) ram at x) ram)
-      go Done = kept at size
-      go (Fails fault) = h
+      go : (t : Result Unit Fault) → P (after_if t (store_le (width_of size) ram at x) ram)
+      go (Ok t) = kept at size
+      go (Err fault) = h
 
   pub base_keeps : (b : Base) (imm12 : ℕ) (size : Size) → P (after_store_by b window ram imm12 size x)
   unfolding after_store_by

@@ -1,7 +1,7 @@
 // Loads and stores: RAM, the external page, and by a base.
 #![tactic(auto)]
 
-ghost use Rattle.std.specs.Prelude.{◌≡◌, min, ◌*◌, ◌%◌, ◌^◌};
+ghost use Rattle.std.specs.Prelude.{◌≡◌, ◌*◌, ◌%◌, ◌^◌};
 ghost use Rattle.words.specs.Bitwise.{sign_extended};
 ghost use Rattle.endian.specs.LittleEndian.{width_of};
 ghost use Rattle.memory.specs.Faults.{fault_number};
@@ -23,59 +23,53 @@ pub enum Fault {
     OutsideWindow,
 }
 
-#[derive(Clone, Copy)]
-pub enum Loaded {
-    Value(u32),
-    Fails(Fault),
-}
-
-// What an attempt at an access comes to.
-#[derive(Clone, Copy)]
-pub enum Attempt {
-    Done,
-    Fails(Fault),
-}
-
 // The papers' number of a fault.
-pub fn fault_number(f: Fault) -> u8
-    ensures { result ≡ fault_number f }
-{
-    match f {
-        Fault::NoBase => 1,
-        Fault::PastRam => 2,
-        Fault::OffExternalPage => 3,
-        Fault::PastStack => 4,
-        Fault::LowStack => 5,
-        Fault::PastPage => 6,
-        Fault::OutsideWindow => 7,
+impl From<Fault> for u8 {
+    ghost from_gives = { λ f n. n ≡ fault_number f };
+
+    fn from(f: Fault) -> u8 {
+        match f {
+            Fault::NoBase => 1,
+            Fault::PastRam => 2,
+            Fault::OffExternalPage => 3,
+            Fault::PastStack => 4,
+            Fault::LowStack => 5,
+            Fault::PastPage => 6,
+            Fault::OutsideWindow => 7,
+        }
     }
 }
 
 // Whether an access of some bytes to RAM may be done, tested whole: past RAM first, then the window.
-pub fn ram_access(window: Window, at: usize, bytes: usize, past: Fault) -> Attempt
+pub fn ram_access(window: Window, at: usize, bytes: usize, past: Fault) -> Result<(), Fault>
     ensures { result ≡ ram_access window at bytes past }
 {
     if !window::holds(window::whole_ram(), at, bytes) {
-        return Attempt::Fails(past);
+        return Err(past);
     }
     if !window::holds(window, at, bytes) {
-        return Attempt::Fails(Fault::OutsideWindow);
+        return Err(Fault::OutsideWindow);
     }
-    Attempt::Done
+    Ok(())
 }
 
 // The only way to read RAM.
-pub fn ram_load(window: Window, ram: &[u8], at: usize, size: Size, past: Fault) -> Loaded
+#[tactic(auto, using(crate::proofs::Ram::done_near), unfolding(crate::specs::Memory::ram_loaded))]
+pub fn ram_load(
+    window: Window,
+    ram: &[u8],
+    at: usize,
+    size: Size,
+    past: Fault,
+) -> Result<u32, Fault>
     ensures { result ≡ ram_loaded window ram.now at size past }
 {
-    let read = ram_access(window, at, endian::width(size), past);
-    match read {
-        Attempt::Done => Loaded::Value(endian::load(ram, at as u32, size)),
-        Attempt::Fails(fault) => Loaded::Fails(fault),
-    }
+    ram_access(window, at, endian::width(size), past)?;
+    Ok(endian::load(ram, at as u32, size))
 }
 
 // The only way to write RAM.
+#[tactic(auto, using(crate::proofs::Ram::done_near), unfolding(crate::specs::Memory::ram_after))]
 pub fn ram_store(
     window: Window,
     ram: &mut [u8],
@@ -83,41 +77,31 @@ pub fn ram_store(
     size: Size,
     x: u32,
     past: Fault,
-) -> Attempt
+) -> Result<(), Fault>
     ensures { (result ≡ ram_stored window at size past) × (ram.new ≡ ram_after window ram.old at size past x) }
 {
-    let written = ram_access(window, at, endian::width(size), past);
-    match written {
-        Attempt::Done => {
-            endian::store(ram, at as u32, size, x);
-            Attempt::Done
-        }
-        Attempt::Fails(fault) => Attempt::Fails(fault),
-    }
-}
-
-// The lesser of two.
-fn least(a: usize, b: usize) -> usize
-    ensures { result ≡ min a b }
-{
-    if a < b { a } else { b }
+    let bytes = endian::width(size);
+    ram_access(window, at, bytes, past)?;
+    endian::store(ram, at as u32, size, x);
+    Ok(())
 }
 
 // A load from the external page that holds the offset: only that page is handed on to be read.
-pub fn external_load(external: &[u8], offset: u32, imm12: u16, size: Size) -> Loaded
+pub fn external_load(external: &[u8], offset: u32, imm12: u16, size: Size) -> Result<u32, Fault>
     ensures { result ≡ external_loaded external.now offset imm12 size }
 {
-    let from = least((offset / 256 * 256) as usize, external.len());
-    let end = least(from + 256, external.len());
+    let from = ((offset / 256 * 256) as usize).min(external.len());
+    let end = (from + 256).min(external.len());
     let at = offset % 256 + imm12 as u32;
     if (at as usize) <= 256 - endian::width(size) {
-        Loaded::Value(endian::load(&external[from..end], at, size))
+        Ok(endian::load(&external[from..end], at, size))
     } else {
-        Loaded::Fails(Fault::OffExternalPage)
+        Err(Fault::OffExternalPage)
     }
 }
 
-// A load by a base.
+// A load by a base. External data and window stand apart, since no program is read here.
+#[tactic(auto, unfolding(crate::specs::Memory::loaded_by))]
 pub fn load_by(
     base: Base,
     needs_ram: bool,
@@ -126,11 +110,11 @@ pub fn load_by(
     external: &[u8],
     imm12: u16,
     size: Size,
-) -> Loaded
+) -> Result<u32, Fault>
     ensures { result ≡ loaded_by base needs_ram window ram.now external.now imm12 size }
 {
     match base {
-        Base::Nothing => Loaded::Fails(Fault::NoBase),
+        Base::Nothing => Err(Fault::NoBase),
         Base::Ram(offset) => ram_load(
             window,
             ram,
@@ -140,7 +124,7 @@ pub fn load_by(
         ),
         Base::External(offset) => {
             if needs_ram {
-                Loaded::Fails(Fault::NoBase)
+                Err(Fault::NoBase)
             } else {
                 external_load(external, offset, imm12, size)
             }
@@ -149,6 +133,7 @@ pub fn load_by(
 }
 
 // A store by a base.
+#[tactic(auto, unfolding(crate::specs::Memory::stored_by, crate::specs::Memory::after_store_by))]
 pub fn store_by(
     base: Base,
     window: Window,
@@ -156,16 +141,15 @@ pub fn store_by(
     imm12: u16,
     size: Size,
     x: u32,
-) -> Attempt
+) -> Result<(), Fault>
     ensures { (result ≡ stored_by base window imm12 size) × (ram.new ≡ after_store_by base window ram.old imm12 size x) }
 {
     match base {
-        Base::Nothing => Attempt::Fails(Fault::NoBase),
         Base::Ram(offset) => {
             let at = offset as usize + imm12 as usize;
             ram_store(window, ram, at, size, x, Fault::PastRam)
         }
-        Base::External(_) => Attempt::Fails(Fault::NoBase),
+        Base::Nothing | Base::External(_) => Err(Fault::NoBase),
     }
 }
 
@@ -178,11 +162,8 @@ fn extended(x: u32, size: Size) -> u32
 }
 
 // What was loaded, as a signed number in 32 bits.
-pub fn signed(size: Size, loaded: Loaded) -> Loaded
+pub fn signed(size: Size, loaded: Result<u32, Fault>) -> Result<u32, Fault>
     ensures { result ≡ signed_loaded size loaded }
 {
-    match loaded {
-        Loaded::Value(x) => Loaded::Value(extended(x, size)),
-        Loaded::Fails(fault) => Loaded::Fails(fault),
-    }
+    Ok(extended(loaded?, size))
 }

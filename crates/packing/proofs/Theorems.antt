@@ -54,24 +54,24 @@ module _ (packed : List ℕ) (h : (k : ℕ) → get_or packed k 0 < 256) (t : de
   abbrev short_values : List ℕ
   short_values = values_for (numbers_of (numbers_in packed))
 
-  abbrev written_lem : List ℕ
-  written_lem = record_bytes (record_short packed)
+  abbrev stored_form_of : List ℕ
+  stored_form_of = record_bytes (record_short packed)
 
-  values_written : decode stored_form written_lem ≡ short_values
+  values_written : decode stored_form stored_form_of ≡ short_values
   values_written =
       ap (λ (vs : List ℕ). decode stored_form (encode stored_form vs)) (Short.same_values packed h t)
       ∙ Fields.decode_encode stored_form short_values (Short.bytes_kept packed h t).0
 
-  length_written : length written_lem ≡ 44
+  length_written : length stored_form_of ≡ 44
   length_written =
       ap (λ (vs : List ℕ). length (encode stored_form vs)) (Short.same_values packed h t)
       ∙ Fields.length_encode stored_form short_values (Short.bytes_kept packed h t).0
 
   -- its stored form is accepted, and holds the same record
-  pub stored_reads : (decision (load_rules written_lem) ≡ accepted) × (record_in written_lem ≡ record_short packed)
+  pub stored_reads : (decision (load_rules stored_form_of) ≡ accepted) × (record_in stored_form_of ≡ record_short packed)
   stored_reads =
-      let tested : InRange (decode stored_form written_lem) = ap (λ (vs : List ℕ). decision (range_rules vs)) values_written ∙ (Short.bytes_kept packed h t).1 in
-      (sym (by_rest (length written_lem) (range_rules (decode stored_form written_lem)) length_written) ∙ tested, ap record_of values_written)
+      let tested : InRange (decode stored_form stored_form_of) = ap (λ (vs : List ℕ). decision (range_rules vs)) values_written ∙ (Short.bytes_kept packed h t).1 in
+      (sym (by_rest (length stored_form_of) (range_rules (decode stored_form stored_form_of)) length_written) ∙ tested, ap record_of values_written)
 
   pub packed_length : (12 ≤ length packed) × (length packed ≤ 49)
   packed_length =

@@ -11,7 +11,8 @@ pub struct Halves {
     pub second: u16,
 }
 
-// A page has an allowed length.
+// A page has an allowed length. Each such rule has numbers of its own: one function of them all would say none.
+#[tactic(auto, unfolding(crate::specs::Page::page_fits))]
 pub fn fits(page: &[u8]) -> bool
     ensures { result ≡ page_fits page.now }
 {
@@ -29,6 +30,7 @@ fn halfword(low: u8, high: u8) -> u16
 }
 
 // The halfwords of bundle k. A bundle that lies in the page is read with one test for its four bytes.
+#[tactic(auto, unfolding(crate::specs::Page::halfword_at))]
 pub fn halves_of(page: &[u8], k: u32) -> Halves
     ensures { result ≡ record { first = first_of page.now k; second = second_of page.now k } }
 {
@@ -46,6 +48,7 @@ pub fn halves_of(page: &[u8], k: u32) -> Halves
 }
 
 // The word of bundle k.
+#[tactic(auto, unfolding(crate::specs::Page::word_at))]
 pub fn word(page: &[u8], k: u32) -> u32
     ensures { result ≡ word_at page.now k }
 {

@@ -3,13 +3,14 @@
 
 ghost use Rattle.std.specs.Prelude.{◌≡◌};
 ghost use Rattle.platform.specs.Platforms.{encodings_on};
-ghost use Rattle.platform.specs.Programs.{program_of};
+ghost use Rattle.platform.specs.Programs.{seen_program};
 ghost use Rattle.place.specs.Places.{stands_in, instruction_at, following, second_fits, fit_below};
 
 use isa::Instruction;
-use platform::Platform;
+use platform::{Platform, Program};
 
 // Of a bundle's halfwords.
+#[tactic(auto, unfolding(crate::specs::Places::stands_in))]
 fn stands_in(platform: Platform, even: bool, first: u16, second: u16) -> Instruction
     ensures { result ≡ stands_in (encodings_on platform) even first second }
 {
@@ -26,19 +27,21 @@ fn stands_in(platform: Platform, even: bool, first: u16, second: u16) -> Instruc
     }
 }
 
-pub fn instruction_at(page: &[u8], platform: Platform, place: u16) -> Instruction
-    ensures { result ≡ instruction_at (program_of page.now platform) place }
+#[tactic(auto, unfolding(crate::specs::Places::instruction_at))]
+pub fn instruction_at(program: &Program, place: u16) -> Instruction
+    ensures { result ≡ instruction_at (seen_program program.now) place }
 {
     let k = (place / 2) as u32;
-    if (k as usize) < page.len() / 4 {
-        let h = page::halves_of(page, k);
-        stands_in(platform, place % 2 == 0, h.first, h.second)
+    if (k as usize) < program.page.len() / 4 {
+        let h = page::halves_of(program.page, k);
+        stands_in(program.platform, place % 2 == 0, h.first, h.second)
     } else {
         Instruction::Unlisted
     }
 }
 
-// The place behind the instruction.
+// The place behind the instruction: a u32, since the last place has none behind it.
+#[tactic(auto, unfolding(crate::specs::Places::following))]
 pub fn next_place(page: &[u8], place: u16) -> u32
     ensures { result ≡ following page.now place }
 {
@@ -52,8 +55,9 @@ pub fn next_place(page: &[u8], place: u16) -> u32
 }
 
 // Of a bundle's halfwords: the second is fit, if the bundle lies below the count.
-fn second_fits(page: &[u8], platform: Platform, leading: u16, second: u16) -> bool
-    ensures { result ≡ second_fits (program_of page.now platform) leading second }
+#[tactic(auto, unfolding(crate::specs::Places::second_fits))]
+fn second_fits(program: &Program, leading: u16, second: u16) -> bool
+    ensures { result ≡ second_fits (seen_program program.now) leading second }
 {
     if isa::opens_32(leading) {
         return false;
@@ -61,11 +65,12 @@ fn second_fits(page: &[u8], platform: Platform, leading: u16, second: u16) -> bo
     if isa::opens_32(second) {
         return false;
     }
-    !flow::is_terminator(page, platform, profile::decode16(platform, leading))
+    !flow::is_terminator(program, profile::decode16(program.platform, leading))
 }
 
-pub fn is_fit(page: &[u8], platform: Platform, count: u32, place: u16) -> bool
-    ensures { result ≡ fit_below (program_of page.now platform) count place }
+#[tactic(auto, unfolding(crate::specs::Places::fit_below))]
+pub fn is_fit(program: &Program, count: u32, place: u16) -> bool
+    ensures { result ≡ fit_below (seen_program program.now) count place }
 {
     let k = (place / 2) as u32;
     if k >= count {
@@ -74,6 +79,6 @@ pub fn is_fit(page: &[u8], platform: Platform, count: u32, place: u16) -> bool
     if place % 2 == 0 {
         return true;
     }
-    let h = page::halves_of(page, k);
-    second_fits(page, platform, h.first, h.second)
+    let h = page::halves_of(program.page, k);
+    second_fits(program, h.first, h.second)
 }

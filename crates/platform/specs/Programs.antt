@@ -7,6 +7,8 @@ use Rattle.isa.specs.declared.Instruction.{Instruction}
 use Rattle.platform.specs.Platforms.{default_platform}
 use Rattle.window.specs.declared.Window.{Window}
 use Rattle.platform.specs.declared.Platform.{Platform}
+use Rattle.platform.specs.declared.Program as declared
+use Rattle.platform.specs.declared.Setting as declared_setting
 
 -- a page, the set of direct syscalls that never return, and a profile: not its number but what it lists, so that whatever is said of
 -- programs is said of any set of listed encodings
@@ -54,3 +56,11 @@ pub record Setting : Type 0 where
 
 abbrev pub setting_of : Program → List ℕ → Window → Setting
 setting_of program external window = record { program = program; external = external; window = window }
+
+-- ---- the code's own
+
+abbrev pub seen_program : declared.Program → Program
+seen_program p = program_of p.page.now p.platform
+
+abbrev pub seen_setting : declared_setting.Setting → Setting
+seen_setting s = setting_of (seen_program s.program) s.external.now s.window

@@ -5,16 +5,32 @@ ghost use Rattle.std.specs.Prelude.{◌≡◌};
 ghost use Rattle.refusal.specs.Refusals.{decision, decision_of};
 ghost use Rattle.isa.specs.Profiles.{profile_of, is_known};
 ghost use Rattle.platform.specs.Platforms.{never_returns, default_platform};
-ghost use Rattle.platform.specs.Programs.{program_of, program_rules};
+ghost use Rattle.platform.specs.Programs.{seen_program, program_rules};
 
-use refusal::{Refusal, Verdict};
+use refusal::Refusal;
+use window::Window;
 
 #[derive(Clone, Copy)]
 pub struct Platform {
     // bit n: direct syscall n never returns
     pub never_return: u64,
-    // 0 full, 1 small
+    // 0 full, 1 small; a number, so that a host's wrong one reaches refusal 18
     pub profile: u32,
+}
+
+// A page and what it runs on, which counts and successors are read from.
+#[derive(Clone, Copy)]
+pub struct Program<'a> {
+    pub page: &'a [u8],
+    pub platform: Platform,
+}
+
+// What a run gets beside budget, record and RAM.
+#[derive(Clone, Copy)]
+pub struct Setting<'a> {
+    pub program: Program<'a>,
+    pub external: &'a [u8],
+    pub window: Window,
 }
 
 pub fn never_returns(platform: Platform, n: u8) -> bool
@@ -44,16 +60,14 @@ pub fn is_known(platform: Platform) -> bool
 }
 
 // The profile is known, and the page has an allowed length.
-pub fn of_program(page: &[u8], platform: Platform) -> Verdict
-    ensures { decision_of result ≡ decision (program_rules (program_of page.now platform)) }
+pub fn of_program(program: &Program) -> Result<(), Refusal>
+    ensures { decision_of result ≡ decision (program_rules (seen_program program.now)) }
 {
-    let known = is_known(platform);
-    let fits = page::fits(page);
-    if !known {
-        return Verdict::Refused(Refusal::UnknownProfile);
+    if !is_known(program.platform) {
+        return Err(Refusal::UnknownProfile);
     }
-    if !fits {
-        return Verdict::Refused(Refusal::PageLength);
+    if !page::fits(program.page) {
+        return Err(Refusal::PageLength);
     }
-    Verdict::Accepted
+    Ok(())
 }

@@ -20,11 +20,12 @@ pub fn with_successor(r: LargestSuccessor, s: u32) -> LargestSuccessor
     match r {
         LargestSuccessor::Bad => LargestSuccessor::Bad,
         LargestSuccessor::Nothing => LargestSuccessor::Largest(s),
-        LargestSuccessor::Largest(t) => LargestSuccessor::Largest(if t < s { s } else { t }),
+        LargestSuccessor::Largest(t) => LargestSuccessor::Largest(t.max(s)),
     }
 }
 
 // The bound after bundle k: it stays, or falls to k where the bundle is not within it.
+#[tactic(auto, using(crate::proofs::Successors::bound_by))]
 pub fn bound_after(bound: u32, r: LargestSuccessor, k: u32) -> u32
     ensures { (x : Successors) → reading_of r ≡ largest_successor x → result ≡ cond (within bound x) bound k }
 {

@@ -13,39 +13,29 @@ use platform::Platform;
 fn compares_and_branches(i: Instruction) -> bool
     ensures { result ≡ compares_and_branches i }
 {
-    match i {
-        Instruction::Data(_) => false,
-        Instruction::Memory(_) => false,
-        Instruction::Cbz(_, _) => true,
-        Instruction::Cbnz(_, _) => true,
-        Instruction::Bcc(_, _) => false,
-        Instruction::B(_) => false,
-        Instruction::Service(_) => false,
-        Instruction::Unlisted => false,
-    }
+    matches!(i, Instruction::Cbz(_, _) | Instruction::Cbnz(_, _))
 }
 
 // A halfword that opens no 32-bit instruction.
 pub fn decode16(platform: Platform, h: u16) -> Instruction
     ensures { result ≡ decode16_by (encodings_on platform) h }
 {
-    if platform.profile < 1 {
+    if platform.profile == 0 {
         return isa16::decode16(h);
     }
     let i = isa16::decode16(h);
-    if (platform.profile < 2) & !compares_and_branches(i) {
-        return i;
+    match platform.profile {
+        1 if !compares_and_branches(i) => i,
+        _ => Instruction::Unlisted,
     }
-    Instruction::Unlisted
 }
 
 // Two halfwords, of which the first opens a 32-bit instruction. Only the full profile has any.
 pub fn decode32(platform: Platform, first: u16, second: u16) -> Instruction
     ensures { result ≡ decode32_by (encodings_on platform) first second }
 {
-    let is_full = platform.profile < 1;
-    if is_full {
-        return isa32::decode32(first, second);
+    match platform.profile {
+        0 => isa32::decode32(first, second),
+        _ => Instruction::Unlisted,
     }
-    Instruction::Unlisted
 }

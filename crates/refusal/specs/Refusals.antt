@@ -1,11 +1,7 @@
 -- Refusals: their numbers and values, and the first one that applies to a call.
-use Rattle.std.specs.Prelude.{ℕ, Bool, true, false, cond, List, [], ◌∷◌}
+use Rattle.std.specs.Prelude.{ℕ, Bool, true, false, cond, List, [], ◌∷◌, Option, Some, None, Result, Ok, Err}
 use Rattle.refusal.specs.declared.Refusal.{Refusal}
 use Rattle.refusal.specs.declared.Refusal.TheVariants.{PageLength, RamLength, ExternalLength, UnfitPlace, FormLength, FormRange, NoSuchBundle, NotGrouped, RoomTooSmall, ImageLength, NoSuchPage, IndexLength, UnknownProfile, WindowBounds, WrongIndex, SpBounds, SpAlignment, RamOffset, ExternalOffset, NoRecord}
-use Rattle.refusal.specs.declared.Carried.{Carried}
-use Rattle.refusal.specs.declared.Carried.TheVariants.{Nothing, Position}
-use Rattle.refusal.specs.declared.Verdict.{Verdict}
-use Rattle.refusal.specs.declared.Verdict.TheVariants.{Accepted, Refused}
 
 -- what a call is told: accepted, or refused with a number, the papers' or the library's own 255, and the values that it carries
 pub data Decision : Type 0 where
@@ -77,10 +73,12 @@ refusal_values RamOffset = []
 refusal_values ExternalOffset = []
 refusal_values (NoRecord position) = position ∷ []
 
-abbrev pub carried_values : Carried → List ℕ
-carried_values Nothing = []
-carried_values (Position position) = position ∷ []
+abbrev pub carried_values : Option ℕ → List ℕ
+carried_values None = []
+carried_values (Some position) = position ∷ []
 
-abbrev pub decision_of : Verdict → Decision
-decision_of Accepted = accepted
-decision_of (Refused r) = refused (refusal_number r) (refusal_values r)
+-- of an answer, whatever it holds where the call is accepted
+module _ {A : Type 0} where
+  abbrev pub decision_of : Result A Refusal → Decision
+  decision_of (Ok answer) = accepted
+  decision_of (Err r) = refused (refusal_number r) (refusal_values r)

@@ -31,82 +31,49 @@ pub enum Refusal {
     NoRecord(u32),
 }
 
-// A call's answer to what it was handed.
-#[derive(Clone, Copy)]
-pub enum Verdict {
-    Accepted,
-    Refused(Refusal),
-}
-
-// What a refusal carries beside its number.
-#[derive(Clone, Copy)]
-pub enum Carried {
-    Nothing,
-    // the position of a byte in the stored form
-    Position(u32),
-}
-
 // The number of a refusal.
-pub fn number(r: Refusal) -> u8
-    ensures { result ≡ refusal_number r }
-{
-    match r {
-        Refusal::PageLength => 1,
-        Refusal::RamLength => 2,
-        Refusal::ExternalLength => 3,
-        Refusal::UnfitPlace => 5,
-        Refusal::FormLength => 6,
-        Refusal::FormRange(_) => 7,
-        Refusal::NoSuchBundle => 8,
-        Refusal::NotGrouped => 9,
-        Refusal::RoomTooSmall => 10,
-        Refusal::ImageLength => 12,
-        Refusal::NoSuchPage => 13,
-        Refusal::IndexLength => 14,
-        Refusal::UnknownProfile => 18,
-        Refusal::WindowBounds => 20,
-        Refusal::WrongIndex => 21,
-        Refusal::SpBounds => 41,
-        Refusal::SpAlignment => 42,
-        Refusal::RamOffset => 43,
-        Refusal::ExternalOffset => 44,
-        Refusal::NoRecord(_) => 255,
+impl From<Refusal> for u8 {
+    ghost from_gives = { λ r n. n ≡ refusal_number r };
+
+    fn from(r: Refusal) -> u8 {
+        match r {
+            Refusal::PageLength => 1,
+            Refusal::RamLength => 2,
+            Refusal::ExternalLength => 3,
+            Refusal::UnfitPlace => 5,
+            Refusal::FormLength => 6,
+            Refusal::FormRange(_) => 7,
+            Refusal::NoSuchBundle => 8,
+            Refusal::NotGrouped => 9,
+            Refusal::RoomTooSmall => 10,
+            Refusal::ImageLength => 12,
+            Refusal::NoSuchPage => 13,
+            Refusal::IndexLength => 14,
+            Refusal::UnknownProfile => 18,
+            Refusal::WindowBounds => 20,
+            Refusal::WrongIndex => 21,
+            Refusal::SpBounds => 41,
+            Refusal::SpAlignment => 42,
+            Refusal::RamOffset => 43,
+            Refusal::ExternalOffset => 44,
+            Refusal::NoRecord(_) => 255,
+        }
     }
 }
 
-pub fn carries(r: Refusal) -> Carried
+// The position of a byte in the stored form, where the refusal carries one.
+pub fn carries(r: Refusal) -> Option<u32>
     ensures { carried_values result ≡ refusal_values r }
 {
     match r {
-        Refusal::PageLength => Carried::Nothing,
-        Refusal::RamLength => Carried::Nothing,
-        Refusal::ExternalLength => Carried::Nothing,
-        Refusal::UnfitPlace => Carried::Nothing,
-        Refusal::FormLength => Carried::Nothing,
-        Refusal::FormRange(position) => Carried::Position(position),
-        Refusal::NoSuchBundle => Carried::Nothing,
-        Refusal::NotGrouped => Carried::Nothing,
-        Refusal::RoomTooSmall => Carried::Nothing,
-        Refusal::ImageLength => Carried::Nothing,
-        Refusal::NoSuchPage => Carried::Nothing,
-        Refusal::IndexLength => Carried::Nothing,
-        Refusal::UnknownProfile => Carried::Nothing,
-        Refusal::WindowBounds => Carried::Nothing,
-        Refusal::WrongIndex => Carried::Nothing,
-        Refusal::SpBounds => Carried::Nothing,
-        Refusal::SpAlignment => Carried::Nothing,
-        Refusal::RamOffset => Carried::Nothing,
-        Refusal::ExternalOffset => Carried::Nothing,
-        Refusal::NoRecord(position) => Carried::Position(position),
+        Refusal::FormRange(position) | Refusal::NoRecord(position) => Some(position),
+        _ => None,
     }
 }
 
 // A verdict, or the one after it where it accepts.
-pub fn first_of(first: Verdict, second: Verdict) -> Verdict
+pub fn first_of(first: Result<(), Refusal>, second: Result<(), Refusal>) -> Result<(), Refusal>
     ensures { decision_of result ≡ when_accepted (decision_of first) (decision_of second) (decision_of first) }
 {
-    match first {
-        Verdict::Accepted => second,
-        Verdict::Refused(why) => Verdict::Refused(why),
-    }
+    first.and(second)
 }

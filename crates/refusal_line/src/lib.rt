@@ -1,30 +1,38 @@
-// The line of a refusal, which every program prints the same way. Each of these puts its text behind the first bytes of a text, of
-// which there are at, and answers where the text then ends.
+// The line of a refusal, which every program prints the same way.
 #![tactic(auto)]
 
-ghost use Rattle.refusal.specs.Refusals.{refusal_number, refusal_values, carried_values};
-ghost use Rattle.text.specs.Text.{Puts};
-ghost use Rattle.refusal_line.specs.RefusalLine.{values_text, refused_text};
+ghost use Rattle.std.specs.Prelude.{OnOk};
+ghost use Rattle.std.specs.Io.KnownBytes.{Appends};
+ghost use Rattle.refusal.specs.Refusals.{refusal_number, refusal_values};
+ghost use Rattle.text.specs.Text.{Grows};
+ghost use Rattle.refusal_line.specs.RefusalLine.{refused_text};
 
-use refusal::{Carried, Refusal};
+use refusal::Refusal;
+use std::io::{self, Write};
+use text::Text;
 
-fn put_values(text: &mut [u8], at: usize, carried: Carried) -> usize
-    ensures { Puts text.old at (values_text (carried_values carried)) result text.new }
+// It goes behind the text.
+pub fn put(text: &mut Text, refusal: Refusal)
+    ensures { Grows text.old (refused_text (refusal_number refusal) (refusal_values refusal)) text.new }
 {
-    match carried {
-        Carried::Nothing => text::put(text, at, b""),
-        Carried::Position(position) => {
-            let at = text::push(text, at, b' ');
-            text::put_decimal(text, at, position)
-        }
+    text.put(b"refused ");
+    text.put_decimal(u8::from(refusal) as u32);
+    if let Some(position) = refusal::carries(refusal) {
+        text.push(b' ');
+        text.put_decimal(position);
     }
+    text.push(b'\n');
 }
 
-pub fn put(text: &mut [u8], at: usize, refusal: Refusal) -> usize
-    ensures { Puts text.old at (refused_text (refusal_number refusal) (refusal_values refusal)) result text.new }
+// It goes to a writer.
+pub fn write<W: Write>(out: &mut W, refusal: Refusal) -> io::Result<()>
+    ensures { OnOk result (Appends (W.contents out.old) (W.contents out.new) (refused_text (refusal_number refusal) (refusal_values refusal))) }
 {
-    let at = text::put(text, at, b"refused ");
-    let at = text::put_decimal(text, at, refusal::number(refusal) as u32);
-    let at = put_values(text, at, refusal::carries(refusal));
-    text::push(text, at, b'\n')
+    let mut buffer = [0u8; 30];
+    let mut text = Text {
+        buffer: &mut buffer,
+        end: 0,
+    };
+    put(&mut text, refusal);
+    out.write_all(text.bytes())
 }

@@ -1,22 +1,30 @@
 // Runs a page that is read as raw bytes from standard input.
 #![tactic(auto)]
 
-use streams::Input;
+ghost use Rattle.trial.specs.Trial.{trial_of};
+
+use streams::Command;
+
+struct Runner;
+
+impl Command for Runner {
+    ghost text_of = { trial_of };
+
+    fn write(input: &[u8], room: &mut [u8]) -> Option<usize> {
+        trial::try_page(input, room)
+    }
+}
 
 fn main(rt: HostRuntime) {
-    let program = b"runner";
     // One byte more than a page may have, so that a longer input is refused.
-    let mut input = [0u8; 257];
-    let Input::Bytes(n) = streams::read_input(
-        &mut rt.stdin(),
-        &mut rt.stderr(),
-        program,
-        &mut input,
-    ) else {
-        return;
-    };
+    let mut place = [0u8; 257];
     let mut room = [0u8; 512];
-    let written = trial::try_page(text::first(&input, n), &mut room);
-    let text = text::first(&room, text::bytes_written(written));
-    streams::write_output(&mut rt.stdout(), &mut rt.stderr(), program, text);
+    streams::run::<Runner, _, _, _>(
+        &mut rt.stdin(),
+        &mut rt.stdout(),
+        &mut rt.stderr(),
+        b"runner",
+        &mut place,
+        &mut room,
+    );
 }

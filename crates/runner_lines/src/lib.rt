@@ -1,93 +1,88 @@
-// The lines that the runner prints. Each is put behind the first bytes of a text, of which there are at, and answers where the
-// text then ends.
+// The lines that the runner prints. Each goes behind the text.
 #![tactic(auto)]
 
 ghost use Rattle.stop.specs.Stops.{reason_of};
-ghost use Rattle.text.specs.Text.{Puts};
+ghost use Rattle.text.specs.Text.{Grows};
 ghost use Rattle.runner_lines.specs.Lines.{service_text, stop_text, steps_text, place_text};
 ghost use Rattle.runner_lines.specs.Lines.{regs_text, flag_text, flags_text};
 
 use arm::Flags;
 use stop::Stop;
+use text::Text;
 
 // A service, by its low byte.
-fn put_service(text: &mut [u8], at: usize, n: u8) -> usize
-    ensures { Puts text.old at (service_text n) result text.new }
+fn put_service(text: &mut Text, n: u8)
+    ensures { Grows text.old (service_text n) text.new }
 {
-    let at = text::put(text, at, b"stop service ");
-    text::put_hex(text, at, 2, n as u32)
+    text.put(b"stop service ");
+    text.put_hex(2, n as u32);
 }
 
 // Why a run stopped, or the refusal's line.
-pub fn stop_line(text: &mut [u8], at: usize, stop: Stop) -> usize
-    ensures { Puts text.old at (stop_text (reason_of stop)) result text.new }
+pub fn stop_line(text: &mut Text, stop: Stop)
+    ensures { Grows text.old (stop_text (reason_of stop)) text.new }
 {
     match stop {
-        Stop::Budget => text::put(text, at, b"stop budget\n"),
+        Stop::Budget => text.put(b"stop budget\n"),
         Stop::Service(n) => {
-            let at = put_service(text, at, n);
-            text::push(text, at, b'\n')
+            put_service(text, n);
+            text.push(b'\n');
         }
         Stop::ServiceBy(n, literal) => {
-            let at = put_service(text, at, n);
-            let at = text::push(text, at, b' ');
-            let at = text::put_hex(text, at, 8, literal);
-            text::push(text, at, b'\n')
+            put_service(text, n);
+            text.push(b' ');
+            text.put_hex(8, literal);
+            text.push(b'\n');
         }
-        Stop::Fault(fault) => {
-            text::number_line(text, at, b"stop fault ", memory::fault_number(fault) as u32)
-        }
-        Stop::Unlisted => text::put(text, at, b"stop mark\n"),
-        Stop::Refused(refusal) => refusal_line::put(text, at, refusal),
+        Stop::Fault(fault) => { text.number_line(b"stop fault ", u8::from(fault) as u32) }
+        Stop::Unlisted => text.put(b"stop mark\n"),
+        Stop::Refused(refusal) => refusal_line::put(text, refusal),
     }
 }
 
 // How many steps were counted.
-pub fn steps_line(text: &mut [u8], at: usize, steps: u32) -> usize
-    ensures { Puts text.old at (steps_text steps) result text.new }
+#[tactic(auto, unfolding(crate::specs::Lines::steps_text))]
+pub fn steps_line(text: &mut Text, steps: u32)
+    ensures { Grows text.old (steps_text steps) text.new }
 {
-    text::number_line(text, at, b"steps ", steps)
+    text.number_line(b"steps ", steps);
 }
 
 // The place, a halfword number.
-pub fn place_line(text: &mut [u8], at: usize, place: u16) -> usize
-    ensures { Puts text.old at (place_text place) result text.new }
+#[tactic(auto, unfolding(crate::specs::Lines::place_text))]
+pub fn place_line(text: &mut Text, place: u16)
+    ensures { Grows text.old (place_text place) text.new }
 {
-    text::number_line(text, at, b"place ", place as u32)
+    text.number_line(b"place ", place as u32);
 }
 
 // The registers.
-pub fn regs_line(text: &mut [u8], at: usize, regs: [u32; 8]) -> usize
-    ensures { Puts text.old at (regs_text regs) result text.new }
+pub fn regs_line(text: &mut Text, regs: [u32; 8])
+    ensures { Grows text.old (regs_text regs) text.new }
 {
-    let mut end = text::put(text, at, b"regs");
-    let mut i = 0;
-    while i < 8 {
-        end = text::push(text, end, b' ');
-        end = text::put_hex(text, end, 8, regs[i]);
-        i += 1;
+    text.put(b"regs");
+    for x in regs {
+        text.push(b' ');
+        text.put_hex(8, x);
     }
-    text::push(text, end, b'\n')
+    text.push(b'\n');
 }
 
-fn put_flag(text: &mut [u8], at: usize, flag: bool) -> usize
-    ensures { Puts text.old at (flag_text flag) result text.new }
+#[tactic(auto, unfolding(crate::specs::Lines::flag_text))]
+fn put_flag(text: &mut Text, flag: bool)
+    ensures { Grows text.old (flag_text flag) text.new }
 {
-    if flag {
-        text::push(text, at, b'1')
-    } else {
-        text::push(text, at, b'0')
-    }
+    text.push(if flag { b'1' } else { b'0' });
 }
 
 // The flags N, Z, C, V.
-pub fn flags_line(text: &mut [u8], at: usize, flags: Flags) -> usize
-    ensures { Puts text.old at (flags_text flags) result text.new }
+pub fn flags_line(text: &mut Text, flags: Flags)
+    ensures { Grows text.old (flags_text flags) text.new }
 {
-    let at = text::put(text, at, b"flags ");
-    let at = put_flag(text, at, flags.n);
-    let at = put_flag(text, at, flags.z);
-    let at = put_flag(text, at, flags.c);
-    let at = put_flag(text, at, flags.v);
-    text::push(text, at, b'\n')
+    text.put(b"flags ");
+    put_flag(text, flags.n);
+    put_flag(text, flags.z);
+    put_flag(text, flags.c);
+    put_flag(text, flags.v);
+    text.push(b'\n');
 }

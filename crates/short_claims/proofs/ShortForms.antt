@@ -24,9 +24,9 @@ use Rattle.short_claims.specs.ShortForms.{PackCall, UnpackCall, WriteCall, ReadC
 
 -- ---- a form in its room
 
-leaves : (form room left packed_lem : List ℕ) → left ≡ form ++ drop (length form) room → packed_lem ≡ form → 12 ≤ length form → length form ≤ 49 → length form ≤ length room
-    → WrittenTo packed_lem room left
-leaves form room left packed_lem e f low high fits = rw f (record { at_least = low; at_most = high; inside = fits; whole = e })
+leaves : (form room left packed : List ℕ) → left ≡ form ++ drop (length form) room → packed ≡ form → 12 ≤ length form → length form ≤ 49 → length form ≤ length room
+    → WrittenTo packed room left
+leaves form room left packed e f low high fits = rw f (record { at_least = low; at_most = high; inside = fits; whole = e })
 
 -- the room that is tested last is long enough
 room_fits : (form room : List ℕ) → by_room form room ≡ accepted → length form ≤ length room
@@ -57,22 +57,22 @@ module _ (p : PackCall) (t : pack_accepts p) where
   abbrev form : List ℕ
   form = short_form (record_in (stored p))
 
-  packed_lem : pack_decision (stored p) (pack_room p) ≡ accepted
-  packed_lem = accepts form (pack_room p) (pack_left p) _ _ (packs p).0 (packs p).1 t
+  pack_accepted : pack_decision (stored p) (pack_room p) ≡ accepted
+  pack_accepted = accepts form (pack_room p) (pack_left p) _ _ (packs p).0 (packs p).1 t
 
   packed_form : packed_by p ≡ form
   packed_form = form_is form (pack_room p) (pack_left p) _ _ (packs p).0 (packs p).1 t
 
   pack_leaves : WrittenTo (packed_by p) (pack_room p) (pack_left p)
   pack_leaves =
-      let loads = Packing.loads (stored p) (pack_room p) packed_lem in
+      let loads = Packing.loads (stored p) (pack_room p) pack_accepted in
       let n = Packing.short_length (stored p) p.bytes loads in
-      let rules = all_accepted (load_rules (stored p)) (room_rule form (length (pack_room p)) ∷ []) packed_lem in
+      let rules = all_accepted (load_rules (stored p)) (room_rule form (length (pack_room p)) ∷ []) pack_accepted in
       leaves form (pack_room p) (pack_left p) (packed_by p) (left_is form (pack_room p) (pack_left p) _ _ (packs p).0 (packs p).1 t) packed_form n.0 n.1 (room_fits form (pack_room p) rules.1)
 
 out_and_back : (p : PackCall) (u : UnpackCall) → pack_accepts p → short u ≡ packed_by p → length (unpack_room u) ≡ 44 → unpack_accepts u × (unpack_left u ≡ stored p)
 out_and_back p u t e l =
-    let back = Packing.out_and_back (stored p) (pack_room p) (unpack_room u) p.bytes (packed_lem p t) l in
+    let back = Packing.out_and_back (stored p) (pack_room p) (unpack_room u) p.bytes (pack_accepted p t) l in
     let same = e ∙ packed_form p t in (
       (unpacks u).0 ∙ ap (λ (bytes : List ℕ). unpack_decision bytes (unpack_room u)) same ∙ back.0,
       (unpacks u).1 ∙ ap (λ (bytes : List ℕ). room_after_unpack bytes (unpack_room u)) same ∙ back.1,

@@ -8,7 +8,7 @@ use Rattle.refusal.specs.Refusals.{accepted, decision, decision_of}
 use Rattle.state.specs.declared.Record.{Record}
 use Rattle.layout.specs.StoredForm.{Held}
 use Rattle.form.specs.Storing.{LoadAnswer, load_rules, seen_read_back}
-use Rattle.short_form.specs.ShortStoring.{read_rules}
+use Rattle.short_form.specs.ShortStoring.{seen_packed, read_rules}
 use Rattle.conversion.specs.Conversion.{packed, unpacked}
 use Rattle.short_form.specs.contracts.write
 use Rattle.short_form.proofs.write.Kinds as write-kinds
@@ -78,10 +78,10 @@ pack_left c = c.left.1.0.now
 
 -- the form, by the length that is answered
 abbrev pub packed_by : PackCall → List ℕ
-packed_by c = take c.answer.length (pack_left c)
+packed_by c = take (seen_packed c.answer).length (pack_left c)
 
 abbrev pub pack_accepts : PackCall → Type 0
-pack_accepts c = decision_of c.answer.verdict ≡ accepted
+pack_accepts c = decision_of c.answer ≡ accepted
 
 abbrev pub short : UnpackCall → List ℕ
 short c = c.arguments.0.now
@@ -105,10 +105,10 @@ abbrev pub write_left : WriteCall → List ℕ
 write_left c = c.left.1.0.now
 
 abbrev pub written_by : WriteCall → List ℕ
-written_by c = take c.answer.length (write_left c)
+written_by c = take (seen_packed c.answer).length (write_left c)
 
 abbrev pub write_accepts : WriteCall → Type 0
-write_accepts c = decision_of c.answer.verdict ≡ accepted
+write_accepts c = decision_of c.answer ≡ accepted
 
 abbrev pub read_from : ReadCall → List ℕ
 read_from c = c.arguments.0.now

@@ -43,18 +43,6 @@ each_back g h (f ∷ fields) (x ∷ xs) l back = rw (back 0 (omega arith), each_
 
 -- ---- the fields of the stored form
 
--- r0 to r7 are alike
-pub register_lem : (i : ℕ) → i < 8 → field_at stored_form i ≡ field_at stored_form 0
-register_lem zero l = refl
-register_lem (suc zero) l = refl
-register_lem (suc (suc zero)) l = refl
-register_lem (suc (suc (suc zero))) l = refl
-register_lem (suc (suc (suc (suc zero)))) l = refl
-register_lem (suc (suc (suc (suc (suc zero))))) l = refl
-register_lem (suc (suc (suc (suc (suc (suc zero)))))) l = refl
-register_lem (suc (suc (suc (suc (suc (suc (suc zero))))))) l = refl
-register_lem (suc (suc (suc (suc (suc (suc (suc (suc i)))))))) l = absurd (omega arith)
-
 abbrev is_in_words : Short → Bool
 is_in_words as_is = false
 is_in_words in_words = true

@@ -1,12 +1,13 @@
 -- Writing a record in the short form, and reading one: which calls are refused, and what the others give.
-use Rattle.std.specs.Prelude.{ℕ, ◌^◌, Bool, true, false, not, ◌&&◌, List, [], ◌∷◌, ◌++◌, ltb, leb, length, drop}
+use Rattle.std.specs.Prelude.{ℕ, ◌^◌, Bool, true, false, not, ◌&&◌, List, [], ◌∷◌, ◌++◌, ltb, leb, length, drop, Result}
+use Rattle.std.specs.Result.{result_unwrap_or}
 use Rattle.refusal.specs.Refusals.{Decision, Rule, rule, decision, when_accepted, decision_of}
+use Rattle.refusal.specs.declared.Refusal.{Refusal}
 use Rattle.state.specs.Record.{fresh_record}
 use Rattle.state.specs.declared.Record.{Record}
 use Rattle.layout.specs.StoredForm.{Test, Short, as_is, in_words, unless_none, Field, range_rules, value_rules, values_of, record_of}
 use Rattle.form.specs.Storing.{LoadAnswer}
 use Rattle.short_layout.specs.ShortForm.{short_form, Numbers, grouped, not_grouped, numbers_in, value_for, values_for}
-use Rattle.short_form.specs.declared.Packed.{Packed}
 
 -- ---- writing
 
@@ -79,5 +80,5 @@ record_short bytes = record_of (values_for (numbers_of (numbers_in bytes)))
 
 -- ---- the code's answer, by the papers' numbers and values
 
-abbrev pub seen_packed : Packed → PackAnswer
-seen_packed a = record { decision = decision_of a.verdict; length = a.length }
+abbrev pub seen_packed : Result ℕ Refusal → PackAnswer
+seen_packed a = record { decision = decision_of a; length = result_unwrap_or a 0 }

@@ -14,9 +14,13 @@ use borrow.Author.Tests.{eq-eqb, ne_eqb}
 use Rattle.laws.proofs.Parts.{to_end}
 use Rattle.laws.proofs.Runs.{run_lem}
 use Rattle.layout.specs.StoredForm.{Short, as_is, in_words, unless_none, Field, stored_form, field_at}
-use Rattle.leb128.specs.Leb128.{most_groups, NumberAnswer, number, cut_off, too_many_groups, not_shortest, read_number}
-use Rattle.leb128.proofs.Theorems.{Reads, reads}
-use Rattle.short_layout.specs.ShortForm.{is_there, kind_among, field_bytes, bytes_for, Numbers, grouped, not_grouped, field_in, when_read, numbers_behind, numbers_in}
+use Rattle.std.specs.Prelude.{Some, None, Result, Ok, Err}
+use Rattle.std.specs.Result.{result_ok}
+use Rattle.leb128.specs.declared.NoNumber.{NoNumber}
+use Rattle.leb128.specs.declared.NoNumber.TheVariants.{CutOff, TooManyGroups, NotShortest}
+use Rattle.leb128.specs.Leb128.{most_groups, NumberAnswer, number, cut_off, too_many_groups, not_shortest, number_in, read_number, seen_found}
+use Rattle.leb128.proofs.Theorems.{reads}
+use Rattle.short_layout.specs.ShortForm.{is_there, kind_among, field_bytes, bytes_for, grouped, not_grouped, field_in, when_read, numbers_behind, numbers_in}
 
 -- ---- which fields are there
 
@@ -68,34 +72,13 @@ read_more [] i before bytes l = absurd (omega arith)
 read_more (f ∷ fields) zero before bytes l = refl
 read_more (f ∷ fields) (suc i) before bytes l = read_more fields i before bytes (le_of_suc-le-suc l)
 
-abbrev pub is_number : NumberAnswer → Bool
-is_number (number x n) = true
-is_number cut_off = false
-is_number too_many_groups = false
-is_number not_shortest = false
+taken_of : (n : ℕ) (bytes : List ℕ) (x l : ℕ) → ((k : ℕ) → get_or bytes k 0 < 256) → number x l ≡ number_in n bytes → l ≤ length bytes
+taken_of n bytes x l h e = (rw (← e) at (reads n bytes h)).3
 
-unread : (a : NumberAnswer) → is_number a ≡ false → (next : ℕ → ℕ → Numbers) → when_read a next ≡ not_grouped
-unread (number x n) t next = absurd (true≢false t)
-unread cut_off t next = refl
-unread too_many_groups t next = refl
-unread not_shortest t next = refl
-
-abbrev bytes_taken : NumberAnswer → ℕ
-bytes_taken (number x n) = n
-bytes_taken cut_off = 0
-bytes_taken too_many_groups = 0
-bytes_taken not_shortest = 0
-
-taken_of : (n : ℕ) (bytes : List ℕ) (a : NumberAnswer) → Reads n bytes a → bytes_taken a ≤ length bytes
-taken_of n bytes (number x l) r = r.3
-taken_of n bytes cut_off r = omega arith
-taken_of n bytes too_many_groups r = omega arith
-taken_of n bytes not_shortest r = omega arith
-
-taken_when : (t : Bool) (bytes : List ℕ) → ((k : ℕ) → get_or bytes k 0 < 256) → bytes_taken (cond t (read_number bytes) (number 0 0)) ≤ length bytes
+taken_when : (t : Bool) (bytes : List ℕ) (x n : ℕ) → ((k : ℕ) → get_or bytes k 0 < 256) → number x n ≡ cond t (read_number bytes) (number 0 0) → n ≤ length bytes
 unfolding read_number
-taken_when true bytes h = taken_of most_groups bytes (read_number bytes) (reads most_groups bytes h)
-taken_when false bytes h = omega arith
+taken_when true bytes x n h e = taken_of most_groups bytes x n h e
+taken_when false bytes x n h e = let z : n ≡ 0 = cc in omega arith
 
 -- no field takes more bytes than are left, as a part
 pub taken : (s : Short) (kind x n at : ℕ) (bytes : List ℕ) → ((k : ℕ) → get_or bytes k 0 < 256) → number x n ≡ field_in s kind (take (length bytes - at) (drop at bytes))
@@ -103,7 +86,7 @@ pub taken : (s : Short) (kind x n at : ℕ) (bytes : List ℕ) → ((k : ℕ) �
 unfolding field_in
 taken s kind x n at bytes h e =
     let e = rw (to_end bytes at) at e in
-    rw (← length-drop at bytes, ap bytes_taken e) (taken_when (is_there s kind) (drop at bytes) (λ k. rw get_or-drop (h (at + k))))
+    rw (← length-drop at bytes) (taken_when (is_there s kind) (drop at bytes) x n (λ k. rw get_or-drop (h (at + k))) e)
 
 module _ (bytes numbers : List ℕ) (at i : ℕ) (l : i < 13) (whole : numbers_behind (drop i stored_form) (take i numbers) (drop at bytes) ≡ numbers_in bytes) where
   -- what is left to read, as a part
@@ -121,8 +104,16 @@ module _ (bytes numbers : List ℕ) (at i : ℕ) (l : i < 13) (whole : numbers_b
   read_turn x n m e = rw (add-one, take-suc-set numbers i x (omega arith), ← drop-drop n at bytes) (field_left (number x n) e)
 
   -- what isn't a number ends it
-  pub not_read : (a : NumberAnswer) → is_number a ≡ false → a ≡ field_in (field_at stored_form i).short (get_or numbers 9 0) left → not_grouped ≡ numbers_in bytes
-  not_read a t e = sym (unread a t _) ∙ field_left a e
+  pub not_read : (a : Result (ℕ × ℕ) NoNumber) → result_ok a ≡ None → seen_found a ≡ field_in (field_at stored_form i).short (get_or numbers 9 0) left → not_grouped ≡ numbers_in bytes
+  not_read (Ok (x, n)) t e = absurd cc
+  not_read (Err CutOff) t e = field_left cut_off e
+  not_read (Err TooManyGroups) t e = field_left too_many_groups e
+  not_read (Err NotShortest) t e = field_left not_shortest e
+
+-- a number that was found
+pub found : (a : Result (ℕ × ℕ) NoNumber) (x n : ℕ) → result_ok a ≡ Some (x, n) → number x n ≡ seen_found a
+found (Ok q) x n t = let e : (x, n) ≡ q = cc in ap (λ (p : ℕ × ℕ). number p.0 p.1) e
+found (Err e) x n t = absurd cc
 
 -- nothing may follow the last field
 followed : (rest numbers : List ℕ) → cond (eqb (length rest) 0) (grouped numbers) not_grouped ≡ numbers_behind [] numbers rest

@@ -1,8 +1,7 @@
 -- The short stored form of a record: a number for each field of the 44-byte form, in groups of seven bits.
-use Rattle.std.specs.Prelude.{ℕ, ◌*◌, ◌-◌, ◌/◌, Bool, true, false, not, cond, List, [], ◌∷◌, ◌++◌, eqb, get_or, drop, replicate}
+use Rattle.std.specs.Prelude.{ℕ, ◌*◌, ◌-◌, ◌/◌, Bool, true, false, not, cond, List, [], ◌∷◌, ◌++◌, eqb, get_or, drop, replicate, Option, Some, None}
 use Rattle.state.specs.declared.Record.{Record}
 use Rattle.layout.specs.StoredForm.{Short, as_is, in_words, unless_none, Field, stored_form, values_of}
-use Rattle.short_layout.specs.declared.InGroups.{InGroups}
 use Rattle.leb128.specs.Leb128.{leb128, NumberAnswer, number, cut_off, too_many_groups, not_shortest, read_number}
 
 -- ---- values and numbers
@@ -91,7 +90,15 @@ numbers_in bytes = numbers_behind stored_form [] bytes
 
 -- ---- the code's answer
 
--- where the bytes aren't such, all numbers are 0
+-- whether bytes are a short form's numbers, and those; all 0 where they aren't
+pub record InGroups : Type 0 where
+  pub grouped : Bool
+  pub numbers : List ℕ
+
 abbrev pub held_by : Numbers → InGroups
 held_by (grouped numbers) = record { grouped = true; numbers = numbers }
 held_by not_grouped = record { grouped = false; numbers = replicate 13 0 }
+
+abbrev pub seen_held : Option (List ℕ) → InGroups
+seen_held (Some numbers) = record { grouped = true; numbers = numbers }
+seen_held None = record { grouped = false; numbers = replicate 13 0 }

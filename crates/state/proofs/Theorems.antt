@@ -4,7 +4,7 @@ use mathlib.Core.Bool.{Bool, true, false, not, ◌&&◌, cond, and-true}
 use mathlib.Core.List.{[]}
 use mathlib.Core.Path.{◌≡◌, refl, ap, ◌∙◌}
 use Rattle.refusal.specs.Refusals.{Decision, accepted, refused, decision, is_accepted}
-use Rattle.state.specs.FitRecord.{sp_in_bounds, sp_aligned, ram_offset_fits, external_offset_fits, sp_fits, base_fits, fit_record, sp_rules, fit_rules}
+use Rattle.state.specs.FitRecord.{sp_in_bounds, sp_aligned, ram_offset_fits, external_offset_fits, sp_fits, fit_record, sp_rules, fit_rules}
 use Rattle.state.specs.declared.Record.{Record}
 
 -- two lines, and those behind them

@@ -1,10 +1,11 @@
 -- Base validation.
-use Rattle.std.specs.Prelude.{ℕ, ◌+◌, ◌-◌, ◌%◌, ◌^◌, Bool, not, ◌&&◌, cond, List, [], ◌∷◌, eqb, ltb, leb}
+use Rattle.std.specs.Prelude.{ℕ, ◌+◌, ◌-◌, ◌%◌, ◌^◌, Bool, not, ◌&&◌, cond, List, [], ◌∷◌, eqb, ltb, leb, Result}
+use Rattle.std.specs.Result.{result_unwrap_or}
 use Rattle.refusal.specs.Refusals.{Decision, Rule, rule, decision, when_accepted, decision_of}
+use Rattle.refusal.specs.declared.Refusal.{Refusal}
 use Rattle.state.specs.Record.{kind_of, offset_of}
 use Rattle.state.specs.declared.Base.{Base}
 use Rattle.state.specs.declared.Base.TheVariants.{Nothing, Ram, External}
-use Rattle.state.specs.declared.Validated.{Validated}
 
 -- the build paper's external data: 0 to 16,777,216 bytes, a multiple of 256
 unfoldable pub external_fits : ℕ → Bool
@@ -39,5 +40,5 @@ validate_base v external = record {
 }
 
 -- the code's answer, by the build paper's numbers and values
-abbrev pub seen_validated : Validated → ValidationAnswer
-seen_validated a = record { decision = decision_of a.verdict; kind = kind_of a.base; offset = offset_of a.base }
+abbrev pub seen_validated : Result Base Refusal → ValidationAnswer
+seen_validated a = record { decision = decision_of a; kind = kind_of (result_unwrap_or a Nothing); offset = offset_of (result_unwrap_or a Nothing) }

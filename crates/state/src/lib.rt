@@ -8,7 +8,7 @@ ghost use Rattle.state.specs.FitRecord.{sp_fits, fp_fits, bounds_rule, alignment
 ghost use Rattle.state.specs.Validation.{external_fits, validated, validate_base, seen_validated};
 
 use arm::Flags;
-use refusal::{Refusal, Verdict};
+use refusal::Refusal;
 
 // The build paper's base, by which loads and stores go: none, an offset in RAM, or an offset in the external data.
 #[derive(Clone, Copy)]
@@ -26,13 +26,6 @@ pub struct Record {
     pub flags: Flags,
     // the build paper's place: the number of a halfword, from 0
     pub place: u16,
-    pub base: Base,
-}
-
-// What base validation answers.
-#[derive(Clone, Copy)]
-pub struct Validated {
-    pub verdict: Verdict,
     pub base: Base,
 }
 
@@ -73,7 +66,7 @@ pub fn set_in(regs: &mut [u32; 8], k: u8, x: u32)
     }
 }
 
-// ---- the parts of a record, read and changed
+// ---- the parts of a record, read and changed; one function for each, since none ranges over the fields of a struct
 
 pub fn register_of(r: Record, k: u8) -> u32
     ensures { result ≡ register r k }
@@ -116,57 +109,46 @@ pub fn set_place(r: Record, p: u16) -> Record
 pub fn set_base(r: Record, b: Base) -> Record
     ensures { result ≡ with_base r b }
 {
-    let regs = r.regs;
-    let flags = r.flags;
-    Record {
-        regs,
-        sp: r.sp,
-        flags,
-        place: r.place,
-        base: b,
-    }
+    let mut s = r;
+    s.base = b;
+    s
 }
 
 // ---- fit records and validation
 
 // SP lies in RAM or at its end.
-fn bounds_verdict(sp: u32) -> Verdict
+fn bounds_verdict(sp: u32) -> Result<(), Refusal>
     ensures { decision_of result ≡ decision (bounds_rule sp ∷ []) }
 {
     if sp < 0x10000 {
-        return Verdict::Refused(Refusal::SpBounds);
+        return Err(Refusal::SpBounds);
     }
     if sp > 0x18000 {
-        return Verdict::Refused(Refusal::SpBounds);
+        return Err(Refusal::SpBounds);
     }
-    Verdict::Accepted
+    Ok(())
 }
 
-fn alignment_verdict(sp: u32) -> Verdict
+fn alignment_verdict(sp: u32) -> Result<(), Refusal>
     ensures { decision_of result ≡ decision (alignment_rule sp ∷ []) }
 {
     if sp % 4 != 0 {
-        return Verdict::Refused(Refusal::SpAlignment);
+        return Err(Refusal::SpAlignment);
     }
-    Verdict::Accepted
+    Ok(())
 }
 
-fn sp_verdict(sp: u32) -> Verdict
+fn sp_verdict(sp: u32) -> Result<(), Refusal>
     ensures { decision_of result ≡ decision (sp_rules sp) }
 {
-    let bounds = bounds_verdict(sp);
-    let alignment = alignment_verdict(sp);
-    refusal::first_of(bounds, alignment)
+    bounds_verdict(sp)?;
+    alignment_verdict(sp)
 }
 
 pub fn sp_fits(sp: u32) -> bool
     ensures { result ≡ sp_fits sp }
 {
-    let verdict = sp_verdict(sp);
-    match verdict {
-        Verdict::Accepted => true,
-        Verdict::Refused(_) => false,
-    }
+    sp_verdict(sp).is_ok()
 }
 
 // 02's frame test: no frame, or one whose eight words lie in RAM.
@@ -189,36 +171,34 @@ pub fn fp_fits(fp: u32) -> bool
 }
 
 // The offset of the base, with external data of so many bytes.
-fn base_verdict(b: Base, external: usize) -> Verdict
+fn base_verdict(b: Base, external: usize) -> Result<(), Refusal>
     ensures { decision_of result ≡ decision (base_rules b external) }
 {
     match b {
-        Base::Nothing => Verdict::Accepted,
+        Base::Nothing => Ok(()),
         Base::Ram(o) => {
             if o < 0x10_0000 {
-                Verdict::Accepted
+                Ok(())
             } else {
-                Verdict::Refused(Refusal::RamOffset)
+                Err(Refusal::RamOffset)
             }
         }
         Base::External(o) => {
             if (o as usize) < external {
-                Verdict::Accepted
+                Ok(())
             } else {
-                Verdict::Refused(Refusal::ExternalOffset)
+                Err(Refusal::ExternalOffset)
             }
         }
     }
 }
 
 // Whether the record is fit, with external data of so many bytes.
-pub fn fitness(r: Record, external: usize) -> Verdict
+pub fn fitness(r: Record, external: usize) -> Result<(), Refusal>
     ensures { decision_of result ≡ decision (fit_rules r external) }
 {
-    let b = r.base;
-    let sp = sp_verdict(r.sp);
-    let base = base_verdict(b, external);
-    refusal::first_of(sp, base)
+    sp_verdict(r.sp)?;
+    base_verdict(r.base, external)
 }
 
 // External data has an allowed length.
@@ -247,17 +227,11 @@ pub fn base_of(v: u32, external: usize) -> Base
 }
 
 // Base validation.
-pub fn validate(v: u32, external: &[u8]) -> Validated
+pub fn validate(v: u32, external: &[u8]) -> Result<Base, Refusal>
     ensures { seen_validated result ≡ validate_base v (length external.now) }
 {
     if !external_fits(external) {
-        return Validated {
-            verdict: Verdict::Refused(Refusal::ExternalLength),
-            base: Base::Nothing,
-        };
+        return Err(Refusal::ExternalLength);
     }
-    Validated {
-        verdict: Verdict::Accepted,
-        base: base_of(v, external.len()),
-    }
+    Ok(base_of(v, external.len()))
 }

@@ -1,3 +1,3 @@
 pub mod Laws
+pub mod Grows
 pub mod Digits
-pub mod Room

@@ -1,7 +1,8 @@
 -- A call, and the return that meets its frame untouched, give the caller back r2 to r7, FP, SP, its page and the place behind the call.
+use Rattle.std.specs.Prelude.{Result, Ok, Err}
 use Prim.Native.Nat.{ℕ, zero, suc, ◌+◌, ◌-◌, ◌*◌, ◌^◌, ◌<◌, ◌≤◌}
 use native.Mathlib.Omega.{arith}
-use mathlib.Core.Bool.{true, false, true≢false}
+use mathlib.Core.Bool.{Bool, true, false, true≢false}
 use mathlib.Core.List.{List, []}
 use mathlib.Core.Logic.{◌⊎◌, inl, inr}
 use mathlib.Core.Path.{◌≡◌, refl, sym, ap, ◌∙◌}
@@ -10,8 +11,7 @@ use lib.Seq.{take_all, get_or-drop}
 use Rattle.literal.specs.Literals.{call_address, call_words}
 use Rattle.image.specs.Images.{Image}
 use Rattle.window.specs.declared.Window.{Window}
-use Rattle.memory.specs.declared.Attempt.{Attempt}
-use Rattle.memory.specs.declared.Attempt.TheVariants.{Done, Fails}
+use Rattle.memory.specs.declared.Fault.{Fault}
 use Rattle.state.specs.FitRecord.{fp_fits}
 use Rattle.state.proofs.Stack.{FrameInRam, fp_none_or_frame}
 use Rattle.frame.specs.Frames.{frame_of, restored, store_words, load_words, offset_of, frame_access}
@@ -19,24 +19,27 @@ use Rattle.frame.proofs.InRam.{frame_done, done_small}
 use Rattle.frame.proofs.Words.{words_back}
 use Rattle.address.specs.Addresses.{address_of, fit_in}
 use Rattle.address.proofs.Theorems.{in_image_lem, fit_in_lem, page_of_lem, place_of_lem, address_fits}
-use Rattle.transfer.specs.Transfers.{Transfer, moves, stays, fails, when_done, push, call, leave, return, first_met, target_met, low_met}
+use Rattle.transfer.specs.Transfers.{Transfer, moves, stays, fails, when_done, push, call, leave, return, target_met, low_met}
 use Rattle.transfer.specs.declared.Linkage.{Linkage}
-use Rattle.transfer.specs.declared.Met.{Met}
-use Rattle.transfer.specs.declared.Met.TheVariants as met
-use Rattle.transfer.proofs.Laws.{met_then, first_moves, low_moves, call_met, return_by}
+use Rattle.transfer.specs.declared.TransferFault.{TransferFault}
+use Rattle.transfer.proofs.Laws.{target_then, met_then, low_moves, call_met, return_by}
 
 -- ---- what a call that was made says
 
 module _ (to : Linkage) (regs after : List ℕ) where
-  then_moves : (m : Met) (next : Transfer) → met_then m next ≡ moves to regs after → (m ≡ met.Moves) × (next ≡ moves to regs after)
-  then_moves met.Moves next e = (refl, e)
-  then_moves met.Stays next e = absurd (true≢false cc)
-  then_moves (met.Fails f) next e = absurd (true≢false cc)
+  reached : (m : Result Bool TransferFault) (next : Transfer) → target_then m next ≡ moves to regs after → next ≡ moves to regs after
+  reached (Ok true) next e = e
+  reached (Ok false) next e = absurd (true≢false cc)
+  reached (Err f) next e = absurd (true≢false cc)
 
-  done_moves : (a : Attempt) (next : Transfer) → when_done a next ≡ moves to regs after → (a ≡ Done) × (next ≡ moves to regs after)
+  then_moves : (m : Result Unit TransferFault) (next : Transfer) → met_then m next ≡ moves to regs after → (m ≡ Ok tt) × (next ≡ moves to regs after)
+  then_moves (Ok t) next e = (refl, e)
+  then_moves (Err f) next e = absurd (true≢false cc)
+
+  done_moves : (a : Result Unit Fault) (next : Transfer) → when_done a next ≡ moves to regs after → (a ≡ Ok tt) × (next ≡ moves to regs after)
   unfolding when_done
-  done_moves Done next e = (refl, e)
-  done_moves (Fails f) next e = absurd (true≢false cc)
+  done_moves (Ok t) next e = (refl, e)
+  done_moves (Err f) next e = absurd (true≢false cc)
 
 abbrev stack_of : Transfer → ℕ
 stack_of (moves to regs ram) = to.fp
@@ -53,16 +56,17 @@ module _ (image : Image) (window : Window) (w behind : ℕ) (at to : Linkage) (r
   pub record Pushed : Type 0 where
     pub frame : to.fp ≡ at.sp - 32
     pub room : 32 ≤ at.sp
-    pub done : frame_access window to.fp ≡ Done
+    pub done : frame_access window to.fp ≡ Ok tt
     pub written : after ≡ store_words ram (offset_of to.fp) (frame_of (address_of at.page behind) at.fp regs)
 
   pub pushed : Pushed
   unfolding push
   pushed =
-      let first = first_met (target_met image (call_address w)) (low_met (at.sp - (32 + 4 * call_words w))) in
+      let below = low_met (at.sp - (32 + 4 * call_words w)) in
       let next = push window (call_address w) (call_words w) behind at regs ram in
-      let met = then_moves to callee after first next (sym (call_met image window w behind (call_address w) (call_words w) at regs ram _ _ refl refl refl refl) ∙ made) in
-      let low = low_moves (at.sp - (32 + 4 * call_words w)) (first_moves (target_met image (call_address w)) _ met.0).1 in
+      let target = reached to callee after (target_met image (call_address w)) (met_then below next) (sym (call_met image window w behind at regs ram) ∙ made) in
+      let met = then_moves to callee after below next target in
+      let low = low_moves (at.sp - (32 + 4 * call_words w)) met.0 in
       let there = done_moves to callee after (frame_access window (at.sp - 32)) _ met.1 in
       let fp : at.sp - 32 ≡ to.fp = ap stack_of there.1 in
       record {

@@ -1,4 +1,5 @@
 -- What a transfer leaves: a fit place of the image, SP and FP as a fit record's, RAM of its length. It meets no fault but 7 to 10.
+use Rattle.std.specs.Prelude.{Result, Ok, Err}
 use Prim.Native.Nat.{ℕ, ◌+◌, ◌-◌, ◌*◌, ◌≤◌}
 use native.Mathlib.Omega.{arith}
 use mathlib.Core.Bool.{Bool, true, false, cond, ◌||◌}
@@ -12,8 +13,7 @@ use Rattle.laws.proofs.Tests.{second}
 use Rattle.literal.specs.Literals.{call_address, call_words}
 use Rattle.image.specs.Images.{Image}
 use Rattle.window.specs.declared.Window.{Window}
-use Rattle.memory.specs.declared.Attempt.{Attempt}
-use Rattle.memory.specs.declared.Attempt.TheVariants.{Done, Fails}
+use Rattle.memory.specs.declared.Fault.{Fault}
 use Rattle.state.specs.FitRecord.{sp_fits, fp_fits}
 use Rattle.state.proofs.Stack.{InStack, sp_in_stack, in_stack_fits, FrameInRam, fp_none_or_frame, frame_fits}
 use Rattle.frame.specs.Frames.{frame_of, saved_pc, saved_fp, restored, store_words, load_words, offset_of, frame_access}
@@ -58,10 +58,10 @@ module _ (image : Image) where
     stack : InStack at.sp
     stack = sp_in_stack at.sp fit.sp
 
-    done-or-outside : (a : Attempt) (next : Transfer) → InWindowOr7 a → MovesFit (length ram) next → MovesFit (length ram) (when_done a next)
+    done-or-outside : (a : Result Unit Fault) (next : Transfer) → InWindowOr7 a → MovesFit (length ram) next → MovesFit (length ram) (when_done a next)
     unfolding when_done
-    done-or-outside Done next m h = h
-    done-or-outside (Fails fault) next m h = rw m (omega arith)
+    done-or-outside (Ok t) next m h = h
+    done-or-outside (Err fault) next m h = rw m (omega arith)
 
     enter-fits : (address n behind : ℕ) → fit_in image (page_of address) (place_of address) ≡ true
         → MovesFit (length ram) (enter window address n behind at regs ram)

@@ -1,4 +1,5 @@
 -- Transfers by two windows and in two related RAMs come to the same.
+use Rattle.std.specs.Prelude.{Result, Err}
 use Prim.Native.Nat.{ℕ, zero, suc, ◌+◌, ◌-◌, ◌*◌, ◌≤◌}
 use native.Mathlib.Omega.{arith}
 use mathlib.Core.Bool.{Bool, true, false, cond, ◌||◌}
@@ -12,9 +13,8 @@ use Rattle.image.specs.Images.{Image}
 use Rattle.window.specs.Windows.{inside_window}
 use Rattle.window.specs.declared.Window.{Window}
 use Rattle.memory.specs.Memory.{ram_access}
+use Rattle.memory.specs.declared.Fault.{Fault}
 use Rattle.memory.specs.declared.Fault.TheVariants.{PastStack, LowStack}
-use Rattle.memory.specs.declared.Attempt.{Attempt}
-use Rattle.memory.specs.declared.Attempt.TheVariants as attempt
 use Rattle.memory.proofs.Alike.{Alike, both, fault, outside, Related, BothPass, accesses}
 use Rattle.state.specs.FitRecord.{fp_fits}
 use Rattle.frame.specs.Frames.{frame_of, saved_pc, saved_fp, restored, store_words, load_words, offset_of, frame_access}
@@ -51,23 +51,23 @@ module _ (w v : Window) (S : List ℕ → List ℕ → Type 0) (h : Related w v 
   left_alone : Same stays stays
   left_alone = both (both_stay refl refl)
 
-  done_alike : (at bytes : ℕ) (x y : Attempt) (next next' : Transfer) → Alike w v attempt.Fails (BothPass w at bytes) x y
+  done_alike : (at bytes : ℕ) (x y : Result Unit Fault) (next next' : Transfer) → Alike w v Err (BothPass w at bytes) x y
       → (inside_window w at bytes ≡ true → Same next next') → Same (when_done x next) (when_done y next')
   unfolding when_done
   done_alike at bytes x y next next' (both p) k = rw (p.0, p.1) (k p.2)
-  done_alike at bytes x y next next' (fault f n p q) k = fault f n (ap (λ (a : Attempt). when_done a next) p) (ap (λ (a : Attempt). when_done a next') q)
+  done_alike at bytes x y next next' (fault f n p q) k = fault f n (ap (λ (a : Result Unit Fault). when_done a next) p) (ap (λ (a : Result Unit Fault). when_done a next') q)
   done_alike at bytes x y next next' (outside a n i j p q) k =
-      outside a n i j (ap (λ (t : Attempt). when_done t next) p) (λ t. ap (λ (u : Attempt). when_done u next') (q t))
+      outside a n i j (ap (λ (t : Result Unit Fault). when_done t next) p) (λ t. ap (λ (u : Result Unit Fault). when_done u next') (q t))
 
   -- ---- frames
 
-  frames : (address : ℕ) → Alike w v attempt.Fails (BothPass w (offset_of address) 32) (frame_access w address) (frame_access v address)
+  frames : (address : ℕ) → Alike w v Err (BothPass w (offset_of address) 32) (frame_access w address) (frame_access v address)
   unfolding frame_access
   frames address = go (ltb address 0x10000)
     where
-      go : (low : Bool) → Alike w v attempt.Fails (BothPass w (offset_of address) 32)
-          (cond low (attempt.Fails LowStack) (ram_access w (offset_of address) 32 PastStack))
-          (cond low (attempt.Fails LowStack) (ram_access v (offset_of address) 32 PastStack))
+      go : (low : Bool) → Alike w v Err (BothPass w (offset_of address) 32)
+          (cond low (Err LowStack) (ram_access w (offset_of address) 32 PastStack))
+          (cond low (Err LowStack) (ram_access v (offset_of address) 32 PastStack))
       go true = fault LowStack refl refl refl
       go false = accesses w v S h (offset_of address) 32 PastStack refl
 

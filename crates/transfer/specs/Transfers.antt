@@ -1,12 +1,10 @@
 -- Calls, tail calls and returns between the pages of an image, over SP, FP, page and place, the registers and RAM. Calls are given their
 -- word, and one that saves also the place behind it.
-use Rattle.std.specs.Prelude.{ℕ, ◌+◌, ◌-◌, ◌*◌, ◌||◌, cond, List, ◌≡◌, eqb, ltb}
+use Rattle.std.specs.Prelude.{ℕ, ◌+◌, ◌-◌, ◌*◌, Bool, true, false, ◌||◌, cond, List, ◌≡◌, eqb, ltb, Option, Some, None, Result, Ok, Err}
 use Rattle.literal.specs.Literals.{call_address, call_words}
 use Rattle.image.specs.Images.{Image}
 use Rattle.window.specs.declared.Window.{Window}
-use Rattle.memory.specs.declared.Attempt.{Attempt}
-use Rattle.memory.specs.declared.Attempt.TheVariants.{Done}
-use Rattle.memory.specs.declared.Attempt.TheVariants as attempt
+use Rattle.memory.specs.declared.Fault.{Fault}
 use Rattle.state.specs.FitRecord.{fp_fits}
 use Rattle.frame.specs.Frames.{frame_of, saved_pc, saved_fp, restored, store_words, load_words, offset_of, frame_access}
 use Rattle.address.specs.Addresses.{address_of, page_of, place_of, in_image, fit_in, fit_address}
@@ -15,9 +13,7 @@ use Rattle.asking.specs.declared.Asked.{Asked}
 use Rattle.asking.specs.declared.Asked.TheVariants as asked
 use Rattle.transfer.specs.declared.TransferFault.{TransferFault}
 use Rattle.transfer.specs.declared.TransferFault.TheVariants.{Memory, UnfitPlace, LowFrame, UnfitFrame}
-use Rattle.transfer.specs.declared.Met.{Met}
-use Rattle.transfer.specs.declared.Met.TheVariants as met
-use Rattle.transfer.specs.declared.Transferred.{Transferred}
+use Rattle.transfer.specs.declared.Moved.{Moved}
 
 -- where the run then stands, with the registers and RAM; or nothing is moved between pages, and the instruction is what it is on its
 -- page alone, which for a call or a return is an exit; or it meets a fault
@@ -27,9 +23,9 @@ pub data Transfer : Type 0 where
   fails : TransferFault → Transfer
 
 -- a frame that may be read or written
-unfoldable pub when_done : Attempt → Transfer → Transfer
-when_done Done next = next
-when_done (attempt.Fails fault) next = fails (Memory fault)
+unfoldable pub when_done : Result Unit Fault → Transfer → Transfer
+when_done (Ok t) next = next
+when_done (Err fault) next = fails (Memory fault)
 
 -- a target whose page isn't in the image leaves the call an exit; one that isn't fit is fault 8. Its place is even, so that it is fit if its
 -- bundle lies below its page's byte
@@ -98,39 +94,36 @@ transfer image window (asked.Call w) behind at regs ram = call image window w be
 transfer image window (asked.TailCall w) behind at regs ram = tail_call image w at regs ram
 transfer image window asked.Return behind at regs ram = return image window at regs ram
 
--- ---- the code's tests and answer: what is not moved is given back as it was
+-- ---- the code's tests and answer
 
-abbrev pub first_met : Met → Met → Met
-first_met met.Moves behind = behind
-first_met met.Stays behind = met.Stays
-first_met (met.Fails fault) behind = met.Fails fault
-
-abbrev pub target_met : Image → ℕ → Met
+-- whether a target lies in the image, or fault 8
+abbrev pub target_met : Image → ℕ → Result Bool TransferFault
 target_met image address =
-    cond (in_image image (page_of address)) (cond (fit_in image (page_of address) (place_of address)) met.Moves (met.Fails UnfitPlace)) met.Stays
+    cond (in_image image (page_of address)) (cond (fit_in image (page_of address) (place_of address)) (Ok true) (Err UnfitPlace)) (Ok false)
 
-abbrev pub low_met : ℕ → Met
-low_met sp = cond (ltb sp 0x10000) (met.Fails LowFrame) met.Moves
+abbrev pub low_met : ℕ → Result Unit TransferFault
+low_met sp = cond (ltb sp 0x10000) (Err LowFrame) (Ok tt)
 
-abbrev pub place_met : Image → ℕ → Met
-place_met image pc = cond (fit_address image pc) met.Moves (met.Fails UnfitPlace)
+abbrev pub place_met : Image → ℕ → Result Unit TransferFault
+place_met image pc = cond (fit_address image pc) (Ok tt) (Err UnfitPlace)
 
-abbrev pub frame_met : ℕ → Met
-frame_met fp = cond (fp_fits fp) met.Moves (met.Fails UnfitFrame)
+abbrev pub frame_met : ℕ → Result Unit TransferFault
+frame_met fp = cond (fp_fits fp) (Ok tt) (Err UnfitFrame)
 
-unfoldable pub transferred : Linkage → List ℕ → Transfer → Transferred
-transferred at regs (moves to after ram) = record { met = met.Moves; linkage = to; regs = after }
-transferred at regs stays = record { met = met.Stays; linkage = at; regs = regs }
-transferred at regs (fails fault) = record { met = met.Fails fault; linkage = at; regs = regs }
+-- linkage and registers where they move; what isn't told stays as it was
+abbrev pub transferred : Transfer → Result (Option Moved) TransferFault
+transferred (moves to after ram) = Ok (Some (record { linkage = to; regs = after }))
+transferred stays = Ok None
+transferred (fails fault) = Err fault
 
-unfoldable pub ram_left : List ℕ → Transfer → List ℕ
+abbrev pub ram_left : List ℕ → Transfer → List ℕ
 ram_left ram (moves to regs after) = after
 ram_left ram stays = ram
 ram_left ram (fails fault) = ram
 
-abbrev pub Transfers : Linkage → List ℕ → List ℕ → Transfer → Transferred → List ℕ → Type 0
-Transfers at regs ram t x left = (x ≡ transferred at regs t) × (left ≡ ram_left ram t)
+abbrev pub Transfers : List ℕ → Transfer → Result (Option Moved) TransferFault → List ℕ → Type 0
+Transfers ram t x left = (x ≡ transferred t) × (left ≡ ram_left ram t)
 
 -- whatever RAM is
-abbrev pub TransfersAny : Linkage → List ℕ → (List ℕ → Transfer) → Transferred → Type 0
-TransfersAny at regs t x = (ram : List ℕ) → x ≡ transferred at regs (t ram)
+abbrev pub TransfersAny : (List ℕ → Transfer) → Result (Option Moved) TransferFault → Type 0
+TransfersAny t x = (ram : List ℕ) → x ≡ transferred (t ram)

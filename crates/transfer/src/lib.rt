@@ -3,14 +3,15 @@
 
 ghost use Rattle.std.specs.Prelude.{◌+◌, ◌-◌, ◌*◌, ◌^◌, ◌<◌, ◌≤◌, ◌≡◌};
 ghost use Rattle.literal.specs.Literals.{call_address, call_words};
-ghost use Rattle.image.specs.Images.{image_of};
+ghost use Rattle.image.specs.Images.{seen_image};
 ghost use Rattle.address.specs.Addresses.{page_of, place_of};
+ghost use Rattle.transfer.specs.declared.TransferFault.TheVariants.{Memory};
 ghost use Rattle.transfer.specs.Faults.{transfer_fault_number};
-ghost use Rattle.transfer.specs.Transfers.{push, call, top_of, tail_call, leave, return, transfer, first_met, target_met, low_met, place_met, frame_met, transferred, Transfers, TransfersAny};
+ghost use Rattle.transfer.specs.Transfers.{push, call, top_of, tail_call, leave, return, transfer, target_met, low_met, place_met, frame_met, transferred, Transfers, TransfersAny};
 
 use asking::Asked;
-use memory::{Attempt, Fault};
-use platform::Platform;
+use image::Image;
+use memory::Fault;
 use window::Window;
 
 // What a transfer moves: SP and FP on the stack, and the page and place where the run stands.
@@ -20,6 +21,13 @@ pub struct Linkage {
     pub fp: u32,
     pub page: u16,
     pub place: u16,
+}
+
+// Where a transfer leaves the run, RAM aside.
+#[derive(Clone, Copy)]
+pub struct Moved {
+    pub linkage: Linkage,
+    pub regs: [u32; 8],
 }
 
 // Why a transfer fails: by the fault that the access to its frame meets, or by one that no access meets, 8 to 10.
@@ -34,32 +42,25 @@ pub enum TransferFault {
     UnfitFrame,
 }
 
-// How it ends.
-#[derive(Clone, Copy)]
-pub enum Met {
-    Moves,
-    // nothing moves between pages: the instruction is its page's
-    Stays,
-    Fails(TransferFault),
-}
+impl From<Fault> for TransferFault {
+    ghost from_gives = { λ met fault. fault ≡ Memory met };
 
-// What a transfer comes to. Where nothing moves, linkage and registers are the given ones.
-#[derive(Clone, Copy)]
-pub struct Transferred {
-    pub met: Met,
-    pub linkage: Linkage,
-    pub regs: [u32; 8],
+    fn from(met: Fault) -> TransferFault {
+        TransferFault::Memory(met)
+    }
 }
 
 // The papers' number of a fault.
-pub fn transfer_fault_number(fault: TransferFault) -> u8
-    ensures { result ≡ transfer_fault_number fault }
-{
-    match fault {
-        TransferFault::Memory(met) => memory::fault_number(met),
-        TransferFault::UnfitPlace => 8,
-        TransferFault::LowFrame => 9,
-        TransferFault::UnfitFrame => 10,
+impl From<TransferFault> for u8 {
+    ghost from_gives = { λ fault n. n ≡ transfer_fault_number fault };
+
+    fn from(fault: TransferFault) -> u8 {
+        match fault {
+            TransferFault::Memory(met) => u8::from(met),
+            TransferFault::UnfitPlace => 8,
+            TransferFault::LowFrame => 9,
+            TransferFault::UnfitFrame => 10,
+        }
     }
 }
 
@@ -80,74 +81,52 @@ fn words_of(w: u32) -> u32
 
 // ---- what stands in the way
 
-// The first that stands in the way.
-fn first_met(a: Met, b: Met) -> Met
-    ensures { result ≡ first_met a b }
-{
-    match a {
-        Met::Moves => b,
-        Met::Stays => Met::Stays,
-        Met::Fails(fault) => Met::Fails(fault),
-    }
-}
-
-// A target in the image that is fit, or what is met instead.
-fn target_met(image: &[u8], index: &[u8], platform: Platform, address: u32) -> Met
-    ensures { result ≡ target_met (image_of image.now index.now platform) address }
+// Whether a target lies in the image; one that does must be fit.
+fn target_met(image: &Image, address: u32) -> Result<bool, TransferFault>
+    ensures { result ≡ target_met (seen_image image.now) address }
 {
     let p = address::page_of(address);
-    let place = address::place_of(address);
-    if !address::in_image(image, index, platform, p) {
-        return Met::Stays;
+    if !address::in_image(image, p) {
+        return Ok(false);
     }
-    if !address::is_fit(image, index, platform, p, place) {
-        return Met::Fails(TransferFault::UnfitPlace);
+    if !address::is_fit(image, p, address::place_of(address)) {
+        return Err(TransferFault::UnfitPlace);
     }
-    Met::Moves
+    Ok(true)
 }
 
 // SP is to lie so many bytes below.
-fn low_met(top: u32, bytes: u32) -> Met
+fn low_met(top: u32, bytes: u32) -> Result<(), TransferFault>
     requires { bytes < 2 ^ 16 }
     ensures { result ≡ low_met (top - bytes) }
 {
     if top < 0x1_0000 + bytes {
-        return Met::Fails(TransferFault::LowFrame);
+        return Err(TransferFault::LowFrame);
     }
-    Met::Moves
+    Ok(())
 }
 
 // A saved PC.
-fn place_met(image: &[u8], index: &[u8], platform: Platform, pc: u32) -> Met
-    ensures { result ≡ place_met (image_of image.now index.now platform) pc }
+fn place_met(image: &Image, pc: u32) -> Result<(), TransferFault>
+    ensures { result ≡ place_met (seen_image image.now) pc }
 {
-    if !address::is_fit_address(image, index, platform, pc) {
-        return Met::Fails(TransferFault::UnfitPlace);
+    if !address::is_fit_address(image, pc) {
+        return Err(TransferFault::UnfitPlace);
     }
-    Met::Moves
+    Ok(())
 }
 
 // A saved FP.
-fn frame_met(fp: u32) -> Met
+fn frame_met(fp: u32) -> Result<(), TransferFault>
     ensures { result ≡ frame_met fp }
 {
     if !state::fp_fits(fp) {
-        return Met::Fails(TransferFault::UnfitFrame);
+        return Err(TransferFault::UnfitFrame);
     }
-    Met::Moves
+    Ok(())
 }
 
-// ---- each of them
-
-fn answer(met: Met, at: Linkage, regs: [u32; 8]) -> Transferred
-    ensures { result ≡ record { met = met; linkage = at; regs = regs } }
-{
-    Transferred {
-        met,
-        linkage: at,
-        regs,
-    }
-}
+// ---- each of them: where it leaves the run, or None where nothing moves between pages
 
 // The linkage at an address of the image.
 fn linked(sp: u32, fp: u32, address: u32) -> Linkage
@@ -162,7 +141,8 @@ fn linked(sp: u32, fp: u32, address: u32) -> Linkage
     }
 }
 
-// A call that nothing stands in the way of but the window.
+// A call that nothing stands in the way of but the access to its frame.
+#[tactic(auto, using(crate::proofs::Laws::framed), unfolding(crate::specs::Transfers::push, crate::specs::Transfers::when_done))]
 fn push(
     window: Window,
     address: u32,
@@ -171,44 +151,40 @@ fn push(
     at: Linkage,
     regs: [u32; 8],
     ram: &mut [u8],
-) -> Transferred
+) -> Result<Option<Moved>, TransferFault>
     requires { (page_of address < 2 ^ 16) × (n < 2 ^ 7) × (32 + 4 * n ≤ at.sp) }
-    ensures { Transfers at regs ram.old (push window address n behind at regs ram.old) result ram.new }
+    ensures { Transfers ram.old (push window address n behind at regs ram.old) result ram.new }
 {
     let frame = at.sp - 32;
     let mut words = regs;
     words[0] = address::address_of(at.page, behind);
     words[1] = at.fp;
-    let met = frame::write(window, ram, frame, words);
-    match met {
-        Attempt::Fails(fault) => answer(Met::Fails(TransferFault::Memory(fault)), at, regs),
-        Attempt::Done => answer(Met::Moves, linked(frame - 4 * n, frame, address), regs),
-    }
+    frame::write(window, ram, frame, words)?;
+    Ok(Some(Moved {
+        linkage: linked(frame - 4 * n, frame, address),
+        regs,
+    }))
 }
 
+#[tactic(auto, using(crate::proofs::Laws::call_met))]
 fn call(
-    image: &[u8],
-    index: &[u8],
-    platform: Platform,
+    image: &Image,
     window: Window,
     w: u32,
     behind: u16,
     at: Linkage,
     regs: [u32; 8],
     ram: &mut [u8],
-) -> Transferred
-    ensures { Transfers at regs ram.old (call (image_of image.now index.now platform) window w behind at regs ram.old) result ram.new }
+) -> Result<Option<Moved>, TransferFault>
+    ensures { Transfers ram.old (call (seen_image image.now) window w behind at regs ram.old) result ram.new }
 {
     let address = target_of(w);
     let n = words_of(w);
-    let target = target_met(image, index, platform, address);
-    let room = low_met(at.sp, 32 + 4 * n);
-    let met = first_met(target, room);
-    match met {
-        Met::Moves => push(window, address, n, behind, at, regs, ram),
-        Met::Stays => answer(Met::Stays, at, regs),
-        Met::Fails(fault) => answer(Met::Fails(fault), at, regs),
+    if !target_met(image, address)? {
+        return Ok(None);
     }
+    low_met(at.sp, 32 + 4 * n)?;
+    push(window, address, n, behind, at, regs, ram)
 }
 
 fn top_of(fp: u32) -> u32
@@ -220,99 +196,86 @@ fn top_of(fp: u32) -> u32
     fp
 }
 
+#[tactic(auto, using(crate::proofs::Laws::tail_met))]
 fn tail_call(
-    image: &[u8],
-    index: &[u8],
-    platform: Platform,
+    image: &Image,
     w: u32,
     at: Linkage,
     regs: [u32; 8],
-) -> Transferred
-    ensures { TransfersAny at regs (tail_call (image_of image.now index.now platform) w at regs) result }
+) -> Result<Option<Moved>, TransferFault>
+    ensures { TransfersAny (tail_call (seen_image image.now) w at regs) result }
 {
     let address = target_of(w);
-    let n = words_of(w);
+    let below = 4 * words_of(w);
     let top = top_of(at.fp);
-    let target = target_met(image, index, platform, address);
-    let below = low_met(top, 4 * n);
-    let met = first_met(target, below);
-    match met {
-        Met::Moves => answer(Met::Moves, linked(top - 4 * n, at.fp, address), regs),
-        Met::Stays => answer(Met::Stays, at, regs),
-        Met::Fails(fault) => answer(Met::Fails(fault), at, regs),
+    if !target_met(image, address)? {
+        return Ok(None);
     }
+    low_met(top, below)?;
+    Ok(Some(Moved {
+        linkage: linked(top - below, at.fp, address),
+        regs,
+    }))
 }
 
 // A return by the words of a frame that was read.
+#[tactic(auto, using(crate::proofs::Laws::leave_met, crate::proofs::Laws::restoring))]
 fn leave(
-    image: &[u8],
-    index: &[u8],
-    platform: Platform,
+    image: &Image,
     at: Linkage,
     regs: [u32; 8],
     words: [u32; 8],
-) -> Transferred
+) -> Result<Option<Moved>, TransferFault>
     requires { at.fp < 0x18000 }
-    ensures { TransfersAny at regs (leave (image_of image.now index.now platform) at regs words) result }
+    ensures { TransfersAny (leave (seen_image image.now) at regs words) result }
 {
     let pc = words[0];
     let fp = words[1];
-    let place = place_met(image, index, platform, pc);
-    let chain = frame_met(fp);
-    let met = first_met(place, chain);
-    match met {
-        Met::Moves => {
-            let mut after = words;
-            after[0] = regs[0];
-            after[1] = regs[1];
-            answer(Met::Moves, linked(at.fp + 32, fp, pc), after)
-        }
-        Met::Stays => answer(Met::Stays, at, regs),
-        Met::Fails(fault) => answer(Met::Fails(fault), at, regs),
-    }
+    place_met(image, pc)?;
+    frame_met(fp)?;
+    let mut after = words;
+    after[0] = regs[0];
+    after[1] = regs[1];
+    Ok(Some(Moved {
+        linkage: linked(at.fp + 32, fp, pc),
+        regs: after,
+    }))
 }
 
+#[tactic(auto, using(crate::proofs::Laws::return_met), unfolding(crate::specs::Transfers::when_done))]
 fn return_from(
-    image: &[u8],
-    index: &[u8],
-    platform: Platform,
+    image: &Image,
     window: Window,
     at: Linkage,
     regs: [u32; 8],
     ram: &[u8],
-) -> Transferred
-    ensures { result ≡ transferred at regs (return (image_of image.now index.now platform) window at regs ram.now) }
+) -> Result<Option<Moved>, TransferFault>
+    ensures { result ≡ transferred (return (seen_image image.now) window at regs ram.now) }
 {
     if at.fp == 0 {
-        return answer(Met::Stays, at, regs);
+        return Ok(None);
     }
-    let saved = frame::read(window, ram, at.fp);
-    let met = saved.met;
-    let words = saved.words;
-    match met {
-        Attempt::Fails(fault) => answer(Met::Fails(TransferFault::Memory(fault)), at, regs),
-        Attempt::Done => leave(image, index, platform, at, regs, words),
-    }
+    let words = frame::read(window, ram, at.fp)?;
+    leave(image, at, regs, words)
 }
 
-// What is asked for, with the place behind it.
+// What is asked for, with the place behind it. Of a fault nothing is changed.
+#[tactic(auto, using(crate::proofs::Laws::tail_still, crate::proofs::Laws::return_still), unfolding(crate::specs::Transfers::transfer))]
 pub fn transfer(
-    image: &[u8],
-    index: &[u8],
-    platform: Platform,
+    image: &Image,
     window: Window,
     asked: Asked,
     behind: u16,
     at: Linkage,
     regs: [u32; 8],
     ram: &mut [u8],
-) -> Transferred
-    ensures { Transfers at regs ram.old (transfer (image_of image.now index.now platform) window asked behind at regs ram.old) result ram.new }
+) -> Result<Option<Moved>, TransferFault>
+    ensures { Transfers ram.old (transfer (seen_image image.now) window asked behind at regs ram.old) result ram.new }
 {
     match asked {
-        Asked::NoTransfer => answer(Met::Stays, at, regs),
-        Asked::Call(w) => call(image, index, platform, window, w, behind, at, regs, ram),
-        Asked::TailCall(w) => tail_call(image, index, platform, w, at, regs),
-        Asked::Return => return_from(image, index, platform, window, at, regs, &ram[..]),
+        Asked::NoTransfer => Ok(None),
+        Asked::Call(w) => call(image, window, w, behind, at, regs, ram),
+        Asked::TailCall(w) => tail_call(image, w, at, regs),
+        Asked::Return => return_from(image, window, at, regs, &ram[..]),
     }
 }

@@ -1,22 +1,30 @@
 // Writes the stored form of a record whose short form is read as raw bytes from standard input.
 #![tactic(auto)]
 
-use streams::Input;
+ghost use Rattle.conversion.specs.Conversion.{unpacked};
+
+use streams::Command;
+
+struct Unpack;
+
+impl Command for Unpack {
+    ghost text_of = { unpacked };
+
+    fn write(input: &[u8], room: &mut [u8]) -> Option<usize> {
+        conversion::unpack(input, room)
+    }
+}
 
 fn main(rt: HostRuntime) {
-    let program = b"unpack";
     // One byte more than thirteen numbers of five groups have, so that a longer input is refused.
-    let mut input = [0u8; 66];
-    let Input::Bytes(n) = streams::read_input(
-        &mut rt.stdin(),
-        &mut rt.stderr(),
-        program,
-        &mut input,
-    ) else {
-        return;
-    };
+    let mut place = [0u8; 66];
     let mut room = [0u8; 64];
-    let written = conversion::unpack(text::first(&input, n), &mut room);
-    let text = text::first(&room, text::bytes_written(written));
-    streams::write_output(&mut rt.stdout(), &mut rt.stderr(), program, text);
+    streams::run::<Unpack, _, _, _>(
+        &mut rt.stdin(),
+        &mut rt.stdout(),
+        &mut rt.stderr(),
+        b"unpack",
+        &mut place,
+        &mut room,
+    );
 }

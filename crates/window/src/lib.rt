@@ -5,7 +5,7 @@ ghost use Rattle.std.specs.Prelude.{[], ◌∷◌, ◌≡◌};
 ghost use Rattle.refusal.specs.Refusals.{decision, decision_of};
 ghost use Rattle.window.specs.Windows.{whole_ram, window_rule, inside_window};
 
-use refusal::{Refusal, Verdict};
+use refusal::Refusal;
 
 // Offsets in RAM, from the start to below the end.
 #[derive(Clone, Copy)]
@@ -14,7 +14,7 @@ pub struct Window {
     pub end: u32,
 }
 
-// All of RAM, as the runner gives it.
+// All of RAM, as the runner gives it, and as the test of RAM itself has it.
 pub fn whole_ram() -> Window
     ensures { result ≡ whole_ram }
 {
@@ -25,16 +25,16 @@ pub fn whole_ram() -> Window
 }
 
 // The window lies in RAM.
-pub fn of_window(w: Window) -> Verdict
+pub fn of_window(w: Window) -> Result<(), Refusal>
     ensures { decision_of result ≡ decision (window_rule w ∷ []) }
 {
     if w.start > w.end {
-        return Verdict::Refused(Refusal::WindowBounds);
+        return Err(Refusal::WindowBounds);
     }
     if w.end > 32768 {
-        return Verdict::Refused(Refusal::WindowBounds);
+        return Err(Refusal::WindowBounds);
     }
-    Verdict::Accepted
+    Ok(())
 }
 
 // Whether an access of some bytes lies wholly inside.

@@ -1,3 +1,2 @@
 pub mod Integers
 pub mod Shifts
-pub mod Products

@@ -1,19 +1,15 @@
 -- Shifts that take every bit, and the last bit out of an integer.
 use mathlib.Core.Path.{◌≡◌, sym, ap, ◌∙◌}
-use mathlib.Core.Bool.{not}
-use Prim.Native.Nat.{ℕ, zero, suc, min, ◌+◌, ◌-◌, ◌*◌, ◌/◌, ◌%◌, ◌^◌, ◌≤◌, ◌<◌}
-use native.Mathlib.Decide.{dec_lt, ℕ_discrete}
+use Prim.Native.Nat.{ℕ, min, ◌+◌, ◌-◌, ◌*◌, ◌/◌, ◌%◌, ◌^◌, ◌≤◌, ◌<◌}
+use native.Mathlib.Decide.{dec_lt}
 use native.Mathlib.Nat.{div-eq_of_lt, lt_of_lt_of_le, mul_assoc}
 use native.Mathlib.Omega.{arith}
-use lib.Dec.{eqb}
-use lib.IntN.{ℤ, pos, negsuc, neg_ℤ}
+use lib.IntN.{ℤ, pos, negsuc}
 use lib.Pow.{pow_mono, pow-add}
-use lib.Signed.{mag, rem_z, shr_z}
-use borrow.Author.Tests.{eq-eqb, ne_eqb}
+use lib.Signed.{mag, shr_z}
 use mir.Syntax.{w64}
 use mir.Val.{to_z, of_z}
 use Rattle.laws.proofs.Integers.{read}
-use Rattle.words.specs.Shifts.{odd}
 
 -- right, past a number's k bits
 pub gone : (k x n : ℕ) → x < 2 ^ k → k ≤ n → x / 2 ^ n ≡ 0
@@ -47,15 +43,3 @@ shifted_lem {r} {z = z} n m ok e i h j l = read r ok ∙ e ∙ rw (i, j) (at_mos
 -- one place less
 pub one_less : {k : ℕ} (n : ℕ) → k ≡ min n 32 → k - 1 ≡ min (n - 1) 31
 one_less n e = omega arith
-
--- an integer is odd if its remainder by 2 is not 0
-pub odd_is : (z : ℤ) → not (eqb (of_z w64 (rem_z z (pos 2))) 0) ≡ odd z
-odd_is (pos a) = elim (ℕ_discrete (a % 2) 0) [
-  | yes e ↦ rw e
-  | no e ↦ let o : a % 2 ≡ 1 = omega arith in rw o
-]
-odd_is (negsuc a) = by (suc a % 2) (a % 2) (omega arith)
-  where
-    by : (r q : ℕ) → r + q ≡ 1 → not (eqb (of_z w64 (neg_ℤ (pos r))) 0) ≡ eqb q 0
-    by zero q e = sym (ne_eqb q 0 (λ k. omega arith))
-    by (suc r) q e = rw (ne_eqb (2 ^ 64 - suc r) 0 (λ k. omega arith)) (sym (eq-eqb q 0 (omega arith)))

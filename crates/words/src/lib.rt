@@ -17,7 +17,7 @@ pub struct Shifted {
     pub carry: bool,
 }
 
-// ---- shifts
+// ---- shifts; what they have in common is a line or two of each, which no function says more plainly
 
 pub fn lsl_c(x: u32, n: u8, carry: bool) -> Shifted
     ensures { result ≡ lsl_c x n carry }
@@ -71,12 +71,6 @@ fn is_odd(z: i64) -> bool
     z % 2 != 0
 }
 
-fn at_most_32(n: u8) -> u8
-    ensures { result ≡ min n 32 }
-{
-    if n < 32 { n } else { 32 }
-}
-
 pub fn asr_c(x: u32, n: u8, carry: bool) -> Shifted
     ensures { result ≡ asr_c x n carry }
 {
@@ -84,7 +78,7 @@ pub fn asr_c(x: u32, n: u8, carry: bool) -> Shifted
         return Shifted { value: x, carry };
     }
     let z = bits::sign_extended(x, 32);
-    let m = at_most_32(n);
+    let m = n.min(32);
     Shifted {
         value: bits::low_word(shifted_right(z, m)),
         carry: is_odd(shifted_right(z, m - 1)),

@@ -1,6 +1,5 @@
-use Rattle.bits.proofs.Laws.{one_shl, shift_mask, no_field, whole_field}
+use Rattle.bits.proofs.Laws.{shift_mask, no_field, whole_field}
 use native.Mathlib.Omega.{arith}
-use lib.Pow.{pow_pos}
 use Rattle.bits.proofs.field.Goals as goal
 
 pub returns-then-lo-ge32 : goal.returns-then-lo-ge32
@@ -8,9 +7,6 @@ returns-then-lo-ge32 c = no_field 32 c.args.x c.args.lo c.args.n (omega arith) (
 
 pub returns-then-n-ge32 : goal.returns-then-n-ge32
 returns-then-n-ge32 c = whole_field c.args.x c.args.lo c.args.n (omega arith) (omega arith)
-
-pub overflow_sub-result : goal.overflow_sub-result
-overflow_sub-result c = rw (one_shl c.args.n (omega arith)) (pow_pos c.args.n)
 
 pub returns : goal.returns
 returns c = shift_mask c.args.x c.args.lo c.args.n (omega arith)

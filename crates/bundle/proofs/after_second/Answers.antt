@@ -1,13 +1,6 @@
 use Rattle.prefix.specs.Prefix.{goes}
 use Rattle.prefix.specs.LargestSuccessor.{insert}
-use borrow.Author.Rules.{rules}
 use Rattle.bundle.proofs.after_second.Goals as goal
-
-pub returns-in-Bad : goal.returns-in-Bad
-returns-in-Bad c = λ bs e. rw c.in-Bad.is
-
-pub returns-in-Ends : goal.returns-in-Ends
-returns-in-Ends c = λ bs e. rw c.in-Ends.is e
 
 pub returns-in-To : goal.returns-in-To
 returns-in-To c = λ bs e. rw c.in-To.is (c.with_successor.ensures (goes bs) e)

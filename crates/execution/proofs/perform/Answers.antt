@@ -1,32 +1,20 @@
-use mathlib.Core.Path.{refl}
 use native.Mathlib.Omega.{arith}
+use mathlib.Core.Path.{refl}
+use mathlib.Core.Logic.{inl, inr}
 use Rattle.instruction.specs.Instructions.{effect_of}
 use Rattle.execution.specs.Executed.{not_data, effect_ram}
 use Rattle.execution.proofs.Laws.{behind_near, goes_on_lem, ends, branch_ram, branch_if_ram}
-use borrow.Author.Rules.{rules}
 use Rattle.execution.proofs.perform.Goals as goal
 
 pub overflow_cast-next : goal.overflow_cast-next
 overflow_cast-next c = omega (arith, c.requires, behind_near _ _ _ c.next_place-next.ensures)
 
-pub cbz-requires : goal.cbz-requires
-cbz-requires c = c.requires
-
-pub cbnz-requires : goal.cbnz-requires
-cbnz-requires c = c.requires
-
-pub bcc-requires : goal.bcc-requires
-bcc-requires c = c.requires
-
-pub b-requires : goal.b-requires
-b-requires c = c.requires
-
-pub serve-requires : goal.serve-requires
-serve-requires c = c.next_place-next.ensures
-
 pub returns-in-Data : goal.returns-in-Data
 unfolding not_data effect_of effect_ram
-returns-in-Data c = rw c.in-Data.is (c.unlisted.ensures, refl)
+returns-in-Data c = elim c.in-Data.is [
+  | inl e ↦ rw e.1 (c.unlisted.ensures, refl)
+  | inr e ↦ rw e (c.unlisted.ensures, refl)
+]
 
 pub returns-in-Memory : goal.returns-in-Memory
 unfolding not_data effect_of
@@ -34,11 +22,11 @@ returns-in-Memory c = rw (c.in-Memory.is, c.ended.ensures, ← c.next_place-next
 
 pub returns-in-Cbz : goal.returns-in-Cbz
 unfolding not_data effect_of
-returns-in-Cbz c = rw (c.in-Cbz.is, ← c.next_place-next.ensures) (c.cbz.ensures _, branch_if_ram _ _ _ _ _)
+returns-in-Cbz c = rw (c.in-Cbz.is, ← c.next_place-next.ensures, ← c.register_of.ensures) (c.compared.ensures _, branch_if_ram _ _ _ _ _)
 
 pub returns-in-Cbnz : goal.returns-in-Cbnz
 unfolding not_data effect_of
-returns-in-Cbnz c = rw (c.in-Cbnz.is, ← c.next_place-next.ensures) (c.cbnz.ensures _, branch_if_ram _ _ _ _ _)
+returns-in-Cbnz c = rw (c.in-Cbnz.is, ← c.next_place-next.ensures, ← c.register_of-in-Cbnz.ensures) (c.compared-in-Cbnz.ensures _, branch_if_ram _ _ _ _ _)
 
 pub returns-in-Bcc : goal.returns-in-Bcc
 unfolding not_data effect_of
@@ -51,7 +39,3 @@ returns-in-B c = rw c.in-B.is (c.b.ensures _, branch_ram _ _ _)
 pub returns-in-Service : goal.returns-in-Service
 unfolding not_data effect_of
 returns-in-Service c = rw c.in-Service.is c.serve.ensures
-
-pub returns-in-Unlisted : goal.returns-in-Unlisted
-unfolding not_data effect_of effect_ram
-returns-in-Unlisted c = rw c.in-Unlisted.is (c.unlisted-in-Unlisted.ensures, refl)

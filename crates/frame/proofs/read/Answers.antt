@@ -1,18 +1,6 @@
 use mathlib.Core.Path.{sym, ◌∙◌}
-use borrow.Author.Rules.{rules}
 use Rattle.frame.proofs.InRam.{frame_done}
 use Rattle.frame.proofs.read.Goals as goal
 
 pub overflow_sub-address : goal.overflow_sub-address
-overflow_sub-address c = (frame_done _ _ (sym c.access-met.ensures ∙ c.in-Done.is)).0
-
-pub read_words-requires : goal.read_words-requires
-read_words-requires c = (frame_done _ _ (sym c.access-met.ensures ∙ c.in-Done.is)).1
-
-pub returns-in-Fails : goal.returns-in-Fails
-returns-in-Fails c = let told = sym c.access-met.ensures ∙ c.in-Fails.is in rw told
-
-pub returns-in-Done : goal.returns-in-Done
-returns-in-Done c =
-    let told = sym c.access-met.ensures ∙ c.in-Done.is in
-    rw (told, c.read_words.ensures)
+overflow_sub-address c = (frame_done _ _ (sym c.access.ensures ∙ c.in_ok-access.was)).0

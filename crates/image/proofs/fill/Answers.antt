@@ -1,26 +1,12 @@
-use Prim.Native.Nat.{◌-◌}
-use mathlib.Core.Path.{◌≡◌, refl, ◌∙◌}
+use mathlib.Core.Path.{refl, ◌∙◌}
 use native.Mathlib.Omega.{arith}
-use lib.ListN.{length, take, length-set}
+use lib.ListN.{length-set}
 use Rattle.image.specs.Images.{image_of}
-use Rattle.image.specs.Index.{counts_in}
 use Rattle.image.proofs.Laws.{fill_turn, all_same}
 use Rattle.image.proofs.fill.Goals as goal
 
 pub loop-p-init : goal.loop-p-init
 loop-p-init c = (refl, refl)
-
-pub count_at-requires : goal.count_at-requires
-count_at-requires c = omega (arith, c.loop-p.invariant.0)
-
-pub bounds-index-p : goal.bounds-index-p
-bounds-index-p c = omega arith
-
-pub overflow_add-p : goal.overflow_add-p
-overflow_add-p c = omega arith
-
-pub loop-p-smaller : goal.loop-p-smaller
-loop-p-smaller c = omega (arith, length-set c.loop-p.index c.loop-p.p c.count_at.result)
 
 pub loop-p-preserved : goal.loop-p-preserved
 loop-p-preserved c =
@@ -29,13 +15,10 @@ loop-p-preserved c =
     let p = c.loop-p.p in
     let inv = c.loop-p.invariant in (
       length-set index p c.count_at.result ∙ inv.0,
-      fill_turn (image_of s.image.now s.index.now s.platform) index (omega (arith, inv.0)) p c.count_at.result (omega arith) inv.1 c.count_at.ensures,
+      fill_turn (image_of s.pages.now s.index.now s.platform) index (omega (arith, inv.0)) p c.count_at.result (omega arith) inv.1 c.count_at.ensures,
     )
-
-pub shape_of-index : goal.shape_of-index
-shape_of-index c = c.loop-p.invariant.0
 
 pub returns : goal.returns
 returns c =
     let s = c.args in
-    all_same (image_of s.image.now s.index.now s.platform) c.loop-p.index (omega (arith, c.loop-p.invariant.0)) c.loop-p.p (omega arith) c.loop-p.invariant.1
+    all_same (image_of s.pages.now s.index.now s.platform) c.loop-p.index (omega (arith, c.loop-p.invariant.0)) c.loop-p.p (omega arith) c.loop-p.invariant.1

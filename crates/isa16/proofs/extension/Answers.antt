@@ -4,7 +4,6 @@ use native.Mathlib.Omega.{arith}
 use Rattle.laws.proofs.Runs.{past}
 use Rattle.isa.specs.Patterns.{matches}
 use Rattle.isa16.proofs.Classes.{by_ten}
-use borrow.Author.Rules.{rules}
 use Rattle.isa16.proofs.extension.Goals as goal
 
 pub returns-in-0 : goal.returns-in-0

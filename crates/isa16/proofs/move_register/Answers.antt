@@ -8,7 +8,6 @@ use Rattle.isa.specs.ListedEncodings.{m_d}
 use Rattle.isa.specs.declared.Operation.TheVariants.{MovReg}
 use Rattle.isa16.specs.declared.Operands.{Operands}
 use Rattle.isa16.proofs.Classes.{by_low}
-use borrow.Author.Rules.{rules}
 use Rattle.isa16.proofs.move_register.Goals as goal
 
 pub returns-then-f-lt64 : goal.returns-then-f-lt64

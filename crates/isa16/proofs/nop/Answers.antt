@@ -6,7 +6,6 @@ use Rattle.isa16.specs.Classes.{class_of}
 use Rattle.isa.specs.declared.Instruction.TheVariants.{Data}
 use Rattle.isa.specs.declared.Operation.TheVariants.{Nop}
 use Rattle.isa16.proofs.Classes.{by_low}
-use borrow.Author.Rules.{rules}
 use Rattle.isa16.proofs.nop.Goals as goal
 
 pub returns-then-field-eq0 : goal.returns-then-field-eq0

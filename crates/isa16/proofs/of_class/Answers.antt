@@ -11,7 +11,6 @@ use Rattle.isa.specs.declared.Instruction.TheVariants.{Cbz, Cbnz, Bcc, B}
 use Rattle.isa.specs.declared.Operation.TheVariants.{LslImm, LsrImm, AsrImm, AddReg, SubReg, AddImm3, SubImm3, MovImm, CmpImm, AddImm, SubImm, AddSp}
 use Rattle.isa.specs.declared.Access.TheVariants.{LdrLit, StrSp, LdrSp}
 use Rattle.isa16.proofs.Classes.{by_class, class_tops, no_class}
-use borrow.Author.Rules.{rules}
 use Rattle.isa16.proofs.of_class.Goals as goal
 
 pub register_operation-requires : goal.register_operation-requires

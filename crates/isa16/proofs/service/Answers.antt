@@ -9,7 +9,6 @@ use Rattle.isa16.proofs.Lines.{line_at}
 use Rattle.isa.specs.declared.Instruction.TheVariants.{Service}
 use Rattle.isa16.specs.declared.Operands.{Operands}
 use Rattle.isa16.proofs.Classes.{Means, by_low}
-use borrow.Author.Rules.{rules}
 use Rattle.isa16.proofs.service.Goals as goal
 
 -- each row stands for the service

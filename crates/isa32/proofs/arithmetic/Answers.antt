@@ -2,7 +2,6 @@ use mathlib.Core.Path.{refl}
 use Rattle.isa.specs.ListedEncodings.{arithmetic32, decode_by}
 use Rattle.isa.specs.Rows.{pattern_at}
 use Rattle.isa32.proofs.Masks.{miss, by_mask}
-use borrow.Author.Rules.{rules}
 use Rattle.isa32.proofs.arithmetic.Goals as goal
 
 pub returns-then-w-eq4064280576 : goal.returns-then-w-eq4064280576

@@ -3,7 +3,6 @@ use Rattle.isa.specs.ListedEncodings.{listed32, decode_by}
 use Rattle.isa.specs.Rows.{pattern_at}
 use Rattle.isa.proofs.Theorems.{apart32}
 use Rattle.isa32.proofs.Masks.{miss, by_mask}
-use borrow.Author.Rules.{rules}
 use Rattle.isa32.proofs.by_word.Goals as goal
 
 pub returns-then-store : goal.returns-then-store

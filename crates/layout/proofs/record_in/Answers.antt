@@ -1,12 +1,7 @@
-use mathlib.Core.Path.{ap, ◌∙◌}
 use lib.Dec.{lit<}
-use borrow.Author.Rules.{rules}
-use Rattle.layout.specs.StoredForm.{stored_form, record_of}
+use Rattle.layout.specs.StoredForm.{stored_form}
 use Rattle.layout.proofs.Fields.{decode_below}
 use Rattle.layout.proofs.record_in.Goals as goal
 
 pub record_of-requires : goal.record_of-requires
 record_of-requires c = rw c.values_in.ensures (decode_below stored_form 11 c.args.bytes.now (lit< tt) (λ k. (c.type_inv.bytes k).fits))
-
-pub returns : goal.returns
-returns c = c.record_of.ensures ∙ ap record_of c.values_in.ensures

@@ -1,50 +1,27 @@
-use mathlib.Core.Path.{◌≡◌, refl, ◌∙◌}
-use Prim.Native.Nat.{◌-◌, ◌≤◌}
+use mathlib.Core.Path.{◌∙◌}
 use native.Mathlib.Omega.{arith}
-use lib.ListN.{length, take, length-set}
+use lib.ListN.{length-set}
 use Rattle.endian.specs.LittleEndian.{width_of}
 use Rattle.endian.proofs.Theorems.{width_le}
-use Rattle.layout.specs.StoredForm.{stored_form, length_of, decode}
+use Rattle.layout.specs.StoredForm.{stored_form}
 use Rattle.layout.proofs.Fields.{length_at_most}
 use Rattle.layout.proofs.Laws.{next, read_one, all_read}
 use Rattle.layout.proofs.values_in.Goals as goal
 
-pub loop-i-init : goal.loop-i-init
-loop-i-init c = (omega arith, refl, refl, refl)
-
-pub size_of-size-requires : goal.size_of-size-requires
-size_of-size-requires c = omega arith
-
-pub offset_bounds-values-i : goal.offset_bounds-values-i
-offset_bounds-values-i c = omega arith
-
-pub bounds-values-i : goal.bounds-values-i
-bounds-values-i c = omega arith
-
-pub overflow_cast-at : goal.overflow_cast-at
-overflow_cast-at c = omega (arith, width_le c.size_of-size.result)
-
 pub overflow_add-at : goal.overflow_add-at
 overflow_add-at c = omega (arith, length_at_most stored_form c.loop-i.i, width_le c.size_of-size.result)
-
-pub overflow_add-i : goal.overflow_add-i
-overflow_add-i c = omega arith
-
-pub loop-i-smaller : goal.loop-i-smaller
-loop-i-smaller c = omega arith
 
 pub loop-i-preserved : goal.loop-i-preserved
 loop-i-preserved c =
     let l = c.loop-i in
-    let size = c.size_of-size in (
-      omega arith,
-      rw c.width.ensures (next stored_form l.i l.at (width_of size.result) (omega arith) l.invariant.1 size.ensures),
-      length-set l.values l.i _ ∙ l.invariant.2,
-      rw c.load-x.ensures
-          (read_one stored_form l.i l.at (width_of size.result) (omega arith) l.invariant.1 size.ensures l.values c.args.bytes.now (omega arith) l.invariant.3),
-    )
+    let size = c.size_of-size in record {
+      place = rw c.width.ensures (next stored_form l.i l.at (width_of size.result) (omega arith) l.invariant.place size.ensures);
+      size = length-set l.values l.i _ ∙ l.invariant.size;
+      read = rw c.load.ensures
+          (read_one stored_form l.i l.at (width_of size.result) (omega arith) l.invariant.place size.ensures l.values c.args.bytes.now (omega arith) l.invariant.read);
+    }
 
 pub returns : goal.returns
 returns c =
     let l = c.loop-i in
-    all_read stored_form l.values c.args.bytes.now l.i (omega arith) (omega arith) l.invariant.3
+    all_read stored_form l.values c.args.bytes.now l.i (omega arith) (omega arith) l.invariant.read

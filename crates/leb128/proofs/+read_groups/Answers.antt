@@ -1,33 +1,35 @@
-use Rattle.std.proofs.Common.{◌≡◌, ℕ, ◌-◌, ◌%◌, ◌^◌, ◌<◌, ◌≤◌, sym, ◌∙◌, arith, get_or, List, length}
-use Rattle.leb128.specs.Leb128.{NumberAnswer, below, number_in, seen_found}
-use Rattle.leb128.specs.declared.Found.{Found}
-use Rattle.leb128.specs.declared.Found.TheVariants.{Number, CutOff, TooManyGroups, NotShortest}
-use Rattle.leb128.proofs.Laws.{others, none_allowed, none_left, last_read, lower_read, shorter, small_lem}
+use Rattle.std.proofs.Common.{ℕ, ◌-◌, ◌^◌, ◌<◌, ◌≤◌, ◌∙◌, sym, arith, Err}
+use Rattle.std.proofs.lemmas.Result.{err_from_is_err_and}
+use Rattle.leb128.specs.Leb128.{number, seen_found}
+use Rattle.leb128.proofs.Laws.{none_allowed, none_left, last_read, lower_read, shorter, none_below, small}
 use Rattle.leb128.proofs.Theorems.{above}
 use Rattle.leb128.proofs.+read_groups.Goals as goal
 
 pub returns-then-most-eq0 : goal.returns-then-most-eq0
 returns-then-most-eq0 t c = none_allowed c.args.most c.args.bytes.now (omega arith)
 
-pub returns-then-bytes-eq0 : goal.returns-then-bytes-eq0
-returns-then-bytes-eq0 t c = none_left c.args.most c.args.bytes.now (omega arith) (omega arith)
+pub returns-in_default : goal.returns-in_default
+returns-in_default t c = none_left c.args.most c.args.bytes.now (omega arith) c.in_default.ensures.cases
 
 pub returns-then-b-lt128 : goal.returns-then-b-lt128
-returns-then-b-lt128 t c = last_read c.args.most c.args.bytes.now (omega arith) (omega arith) (omega arith)
+returns-then-b-lt128 t c = rw c.from-b.ensures (last_read c.args.most c.in-Some.ensures.cases.0 (omega arith) (omega (arith, c.from-b.ensures)))
 
--- by what the other bytes say
-by_rest : (most : ℕ) (bytes : List ℕ) (told f : Found) → 0 < most → 0 < length bytes → 128 ≤ get_or bytes 0 0 → told ≡ f
-    → seen_found told ≡ number_in (most - 1) (others bytes) → below (seen_found f) (get_or bytes 0 0 % 128) ≡ number_in most bytes
-by_rest most bytes told f p q l e h = lower_read most bytes (seen_found f) p q l (rw e at h)
+pub returns-in_err-x : goal.returns-in_err-x
+returns-in_err-x t c =
+    let none = c.in_err-x.field-0.0 in
+    let told = err_from_is_err_and c.from_residual.result c.from_residual.ensures.1 in
+    rw (told.1, told.2)
+    (none_below none _ ∙ lower_read c.args.most c.in-Some.ensures.cases.0 (seen_found (Err none)) (omega arith) (omega (arith, c.from-b.ensures)) c.in_err-x.ensures)
 
 pub returns-then-x-eq0 : goal.returns-then-x-eq0
 returns-then-x-eq0 t c =
-    shorter c.in-Number.x c.in-Number.n _ (omega arith)
-    ∙ by_rest c.args.most c.args.bytes.now c.read_groups-rest.result (Number c.in-Number.x c.in-Number.n) (omega arith) (omega arith) (omega arith) c.in-Number.is c.read_groups-rest.ensures
+    let r = c.in_ok-x in
+    shorter r.x r.n _ (omega arith)
+    ∙ lower_read c.args.most c.in-Some.ensures.cases.0 (number r.x r.n) (omega arith) (omega (arith, c.from-b.ensures)) r.ensures
 
-small_rest : (t : ℕ) (c : goal.Else-x-eq0 t) → (c.in-Number.x < 2 ^ 28) × (c.in-Number.n ≤ 4)
+small_rest : (t : ℕ) (c : goal.Else-x-eq0 t) → (c.in_ok-x.x < 2 ^ 28) × (c.in_ok-x.n ≤ 4)
 small_rest t c =
-    small_lem (c.args.most - 1) c.args.bytes.now _ _ (omega arith) (λ k. (c.type_inv.bytes k).fits) (rw c.in-Number.is at c.read_groups-rest.ensures)
+    small (c.args.most - 1) c.in-Some.ensures.cases.0 c.in_ok-x.x c.in_ok-x.n (omega arith) (λ k. (c.type_inv.bytes k).fits) c.in_ok-x.ensures
 
 pub overflow_mul-result : goal.overflow_mul-result
 overflow_mul-result t c = omega (arith, (small_rest t c).0)
@@ -35,21 +37,13 @@ overflow_mul-result t c = omega (arith, (small_rest t c).0)
 pub overflow_add-result : goal.overflow_add-result
 overflow_add-result t c = omega (arith, (small_rest t c).0)
 
-pub overflow_add-result-in-Number : goal.overflow_add-result-in-Number
-overflow_add-result-in-Number t c = omega (arith, (small_rest t c).1)
+pub overflow_add-result-2 : goal.overflow_add-result-2
+overflow_add-result-2 t c = omega (arith, (small_rest t c).1)
 
-pub returns-else-x-eq0 : goal.returns-else-x-eq0
-returns-else-x-eq0 t c =
-    sym (above _ c.in-Number.x c.in-Number.n (omega arith))
-    ∙ by_rest c.args.most c.args.bytes.now c.read_groups-rest.result (Number c.in-Number.x c.in-Number.n) (omega arith) (omega arith) (omega arith) c.in-Number.is c.read_groups-rest.ensures
-
-pub returns-in-CutOff : goal.returns-in-CutOff
-returns-in-CutOff t c = by_rest c.args.most c.args.bytes.now c.read_groups-rest.result CutOff (omega arith) (omega arith) (omega arith) c.in-CutOff.is c.read_groups-rest.ensures
-
-pub returns-in-TooManyGroups : goal.returns-in-TooManyGroups
-returns-in-TooManyGroups t c =
-    by_rest c.args.most c.args.bytes.now c.read_groups-rest.result TooManyGroups (omega arith) (omega arith) (omega arith) c.in-TooManyGroups.is c.read_groups-rest.ensures
-
-pub returns-in-NotShortest : goal.returns-in-NotShortest
-returns-in-NotShortest t c =
-    by_rest c.args.most c.args.bytes.now c.read_groups-rest.result NotShortest (omega arith) (omega arith) (omega arith) c.in-NotShortest.is c.read_groups-rest.ensures
+pub returns : goal.returns
+returns t c =
+    let r = c.in_ok-x in
+    rw c.from-b.ensures (
+    sym (above _ r.x r.n (omega arith))
+    ∙ lower_read c.args.most c.in-Some.ensures.cases.0 (number r.x r.n) (omega arith) (omega (arith, c.from-b.ensures)) r.ensures
+    )

@@ -1,4 +1,3 @@
-use borrow.Author.Rules.{rules}
 use Rattle.leb128.specs.Leb128.{read_number}
 use Rattle.leb128.proofs.read.Goals as goal
 

@@ -1,10 +1,9 @@
-use borrow.Author.Rules.{rules}
-use Rattle.text.proofs.Laws.{whole}
+use mathlib.Core.Path.{refl}
+use Rattle.text.proofs.Grows.{all_put}
 use Rattle.listing.proofs.Lengths.{listing_length}
 use Rattle.listing.proofs.list.Goals as goal
 
 pub returns : goal.returns
 returns c =
-    let short = listing_length c.args.page.now in
-    let text = whole short c.put_listing-end.ensures in
-    rw (c.first.ensures, text.1) at c.place.ensures
+    let text = all_put refl (listing_length c.args.page.now) c.put_listing.ensures in
+    rw (c.bytes.ensures, text) at c.place.ensures

@@ -4,11 +4,7 @@ use Rattle.endian.proofs.Theorems.{width_le}
 use Rattle.memory.specs.Memory.{external_loaded, external_page}
 use Rattle.window.proofs.Laws.{past_last, up_to_last}
 use Rattle.memory.proofs.Laws.{clipped}
-use borrow.Author.Rules.{rules}
 use Rattle.memory.proofs.external_load.Goals as goal
-
-pub overflow_sub-width : goal.overflow_sub-width
-overflow_sub-width c = omega (arith, width_le c.args.size, c.width.ensures)
 
 pub returns-then-at-width : goal.returns-then-at-width
 unfolding external_loaded external_page
@@ -19,7 +15,7 @@ returns-then-at-width c =
       c.load.ensures,
       ← w.ensures,
       up_to_last 256 _ w.result few c.if-at-width.true,
-      ← clipped 256 _ _ _ _ c.least-from.ensures c.least-end.ensures,
+      ← clipped 256 _ _ _ _ c.min-from.ensures c.min-end.ensures,
     )
 
 pub returns-else-at-width : goal.returns-else-at-width

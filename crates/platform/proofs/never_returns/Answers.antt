@@ -2,7 +2,6 @@ use mathlib.Core.Path.{sym}
 use native.Mathlib.Omega.{arith}
 use lib.Bits.{and_mask}
 use Rattle.bits.proofs.Laws.{no_field}
-use borrow.Author.Rules.{rules}
 use Rattle.platform.proofs.never_returns.Goals as goal
 
 pub returns-then-n-ge64 : goal.returns-then-n-ge64

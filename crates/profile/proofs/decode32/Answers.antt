@@ -1,14 +1,11 @@
 use mathlib.Core.Path.{◌∙◌}
+use native.Mathlib.Omega.{arith}
 use Rattle.isa.specs.ListedEncodings.{listed32, word_of}
 use Rattle.profile.proofs.Laws.{of_full, of_other32}
 use Rattle.profile.proofs.decode32.Goals as goal
 
-pub returns-then-is_full : goal.returns-then-is_full
-returns-then-is_full c =
-    let number = c.args.platform.profile in
-    c.decode32.ensures ∙ of_full number listed32 _ c.if-is_full.true
+pub returns-in-0 : goal.returns-in-0
+returns-in-0 c = c.decode32.ensures ∙ of_full _ listed32 _ c.in-0.is
 
-pub returns : goal.returns
-returns c =
-    let s = c.args in
-    of_other32 s.platform.profile (word_of s.first s.second) c.if-is_full.false
+pub returns-in_default : goal.returns-in_default
+returns-in_default c = of_other32 c.args.platform.profile (word_of c.args.first c.args.second) (omega arith)

@@ -1,5 +1,4 @@
-use borrow.Author.Rules.{rules}
-use Rattle.text.proofs.Laws.{◌then◌}
+use Rattle.text.proofs.Grows.{◌then◌}
 use Rattle.runner_lines.specs.Lines.{stop_text}
 use Rattle.runner_lines.proofs.stop_line.Goals as goal
 
@@ -10,19 +9,19 @@ returns-in-Budget c = rw c.in-Budget.is c.put.ensures
 pub returns-in-Service : goal.returns-in-Service
 unfolding stop_text
 returns-in-Service c =
-    rw c.in-Service.is (c.put_service-at.ensures then c.push.ensures)
+    rw c.in-Service.is (c.put_service.ensures then c.push.ensures)
 
 pub returns-in-ServiceBy : goal.returns-in-ServiceBy
 unfolding stop_text
 returns-in-ServiceBy c =
     rw c.in-ServiceBy.is
-    (c.put_service-at-in-ServiceBy.ensures then c.push-at.ensures
-    then c.put_hex-at.ensures then c.push-in-ServiceBy.ensures)
+    (c.put_service-in-ServiceBy.ensures then c.push-in-ServiceBy.ensures
+    then c.put_hex.ensures then c.push-in-ServiceBy-2.ensures)
 
 pub returns-in-Fault : goal.returns-in-Fault
 unfolding stop_text
 returns-in-Fault c =
-    rw (c.in-Fault.is, ← c.fault_number.ensures)
+    rw (c.in-Fault.is, ← c.from.ensures)
     c.number_line.ensures
 
 pub returns-in-Unlisted : goal.returns-in-Unlisted

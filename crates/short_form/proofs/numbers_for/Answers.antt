@@ -1,5 +1,4 @@
 use native.Mathlib.Omega.{arith}
-use borrow.Author.Rules.{rules}
 use Rattle.short_form.proofs.Numbers.{numbers_set}
 use Rattle.short_form.proofs.numbers_for.Goals as goal
 

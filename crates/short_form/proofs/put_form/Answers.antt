@@ -4,7 +4,6 @@ use Rattle.text.specs.Text.{Puts}
 use mathlib.Core.Path.{◌≡◌, refl}
 use native.Mathlib.Omega.{arith}
 use lib.ListN.{length}
-use borrow.Author.Rules.{rules}
 use Rattle.layout.specs.StoredForm.{stored_form}
 use Rattle.text.proofs.Laws.{whole}
 use Rattle.short_layout.specs.ShortForm.{short_bytes}

@@ -1,6 +1,5 @@
 use borrow.Author.Tests.{lt-ltb, le-ltb}
 use Rattle.state.specs.Validation.{validated}
-use borrow.Author.Rules.{rules}
 use Rattle.state.proofs.base_of.Goals as goal
 
 pub returns-then-v-lt2147483648 : goal.returns-then-v-lt2147483648

@@ -1,6 +1,5 @@
 use mathlib.Core.Path.{sym}
 use lib.ListN.{get_or-eq_default}
-use borrow.Author.Rules.{rules}
 use Rattle.state.proofs.register_in.Goals as goal
 
 pub returns-else-i-regs : goal.returns-else-i-regs

@@ -1,7 +1,7 @@
-use mathlib.Core.Path.{◌≡◌}
+use mathlib.Core.Path.{◌≡◌, refl}
 use lib.ListN.{length}
 use borrow.Author.Rules.{rules}
-use Rattle.text.proofs.Laws.{whole}
+use Rattle.text.proofs.Grows.{all_put}
 use Rattle.transcript.proofs.Lengths.{transcript_length}
 use Rattle.transcript.proofs.write.Goals as goal
 
@@ -10,5 +10,5 @@ returns c =
     let args = c.args in
     let eight : length args.r.regs ≡ 8 = search rules in
     let short = transcript_length args.stop args.steps args.r eight in
-    let text = whole short c.put_run-end.ensures in
-    rw (c.first.ensures, text.1) at c.place.ensures
+    let text = all_put refl short c.put_run.ensures in
+    rw (c.bytes.ensures, text) at c.place.ensures

@@ -7,7 +7,6 @@ use Rattle.machine.specs.Runs.{seen}
 use Rattle.machine.specs.declared.Answer.{Answer}
 use Rattle.transcript.specs.Transcript.{transcript_of}
 use Rattle.trial.specs.Trial.{trial_run, trial_of}
-use borrow.Author.Rules.{rules}
 use Rattle.trial.proofs.try_page.Goals as goal
 
 -- what a run gives is what is printed
@@ -19,5 +18,5 @@ text-is page a ram e = ap (λ (x : Result). transcript_of x.stop x.steps x.rec) 
 pub returns : goal.returns
 returns c =
     let page = c.args.page.now in
-    let run = rw (c.default_platform.ensures, c.whole_ram.ensures, c.fresh_record.ensures) at c.run-answer.ensures in
+    let run = rw (c.default_platform-platform.ensures, c.whole_ram.ensures, c.fresh_record.ensures) at c.run-answer.ensures in
     rw (text-is page c.run-answer.result _ run) c.write.ensures

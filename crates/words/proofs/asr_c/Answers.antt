@@ -8,17 +8,13 @@ use Rattle.bits.specs.Integers.{SInt, low_word}
 use Rattle.words.specs.Shifts.{odd}
 use Rattle.words.proofs.Integers.{word, in_range}
 use Rattle.words.proofs.Shifts.{shifted_lem, one_less}
-use borrow.Author.Rules.{rules}
 use Rattle.words.proofs.asr_c.Goals as goal
-
-pub returns-then-n-eq0 : goal.returns-then-n-eq0
-returns-then-n-eq0 c = rw c.if-n-eq0.true
 
 pub returns : goal.returns
 returns c =
     let n = c.args.n in
     let z = (in_range c.args.x (omega arith)).0 in
-    let k = c.at_most_32-m.ensures in
+    let k = c.min-m.ensures in
     -- the integer that is shifted is the word's
     let handed : to_z w64 (of_z w64 c.sign_extended-z.result) ≡ SInt 32 c.args.x =
     word c.args.x c.sign_extended-z.result (omega arith) c.sign_extended-z.type_inv c.sign_extended-z.ensures in

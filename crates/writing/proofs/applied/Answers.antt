@@ -3,14 +3,14 @@ use lib.ListN.{length}
 use borrow.Author.Rules.{rules}
 use Rattle.writing.specs.Writes.{applied}
 use Rattle.state.proofs.Registers.{set_eighth}
+use Rattle.writing.proofs.applied.Goals.{in-Some, in_default}
 use Rattle.writing.proofs.applied.Goals as goal
 
-pub returns-in-Register : goal.returns-in-Register
+pub returns : goal.returns
 unfolding applied
-returns-in-Register c =
-    let l : length c.args.r.regs ≡ 8 = search rules in
-    rw (c.in-Register.is, c.set_in.ensures, set_eighth _ _ _ l)
-
-pub returns-in_default : goal.returns-in_default
-unfolding applied
-returns-in_default c = rw c.in_default.is
+returns c = elim c.match-w.branch [
+  | in-Some w ↦
+      let l : length c.args.r.regs ≡ 8 = search rules in
+      rw (w.regs-is, w.in-Some.is, w.set_in.ensures, set_eighth _ _ _ l)
+  | in_default w ↦ rw (w.regs-is, w.in_default.is)
+]

@@ -1,5 +1,0 @@
-use borrow.Author.Rules.{rules}
-use Rattle.alu.proofs.sbc.Goals as goal
-
-pub returns : goal.returns
-returns c = rw (c.summed.ensures, c.add_with_carry.ensures)

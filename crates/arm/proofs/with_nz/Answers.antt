@@ -1,5 +1,0 @@
-use borrow.Author.Rules.{rules}
-use Rattle.arm.proofs.with_nz.Goals as goal
-
-pub returns : goal.returns
-returns c = rw c.field.ensures

@@ -1,0 +1,5 @@
+-- `put_decimal` calls itself for a tenth of x, so its measure is x.
+use Rattle.text.proofs.Text.+put_decimal.Given as goal
+
+abbrev pub decreases-put_decimal : goal.decreases-put_decimal
+decreases-put_decimal l = l.x
