@@ -51,6 +51,7 @@ fn set_base_to(r: Record, v: u32, external: &[u8]) -> Result<Writes, Fault>
     ))
 }
 
+// External data and window stand apart, since no program and no platform is read.
 #[tactic(auto, using(crate::proofs::Laws::none_did_lem, crate::proofs::Laws::none_ram), unfolding(crate::specs::ServiceEffects::service_does, crate::specs::ServiceEffects::leaves_none, access::specs::Outcomes::outcome_ram))]
 pub fn serve(
     external: &[u8],

@@ -107,7 +107,7 @@ fn is_set(x: u32, n: u32) -> bool
     bits::field(x, n, 1) == 1
 }
 
-// 8N + 4Z + 2C + V
+// 8N + 4Z + 2C + V. Each of these gives one value of the thirteen, so that no one conversion says them.
 fn flags_number(f: Flags) -> u32
     ensures { result ≡ flags_number f }
 {
