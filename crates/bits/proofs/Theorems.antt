@@ -1,17 +1,12 @@
 -- Laws of the definitions, for those who call.
-use mathlib.Core.Path.{◌≡◌}
 use mathlib.Core.Bool.{Bool, true, false, cond}
-use Prim.Native.Nat.{ℕ, ◌+◌, ◌-◌, ◌*◌, ◌^◌, ◌<◌}
-use native.Mathlib.Nat.{le_refl, mod-eq_of_lt}
+use Prim.Native.Nat.{ℕ, ◌-◌, ◌^◌, ◌<◌}
+use native.Mathlib.Nat.{le_refl}
 use lib.IntN.{pos, ◌-ℤ◌}
 use lib.Signed.{mag}
 use Rattle.laws.proofs.Differences.{minus, mag_diff}
-use Rattle.bits.specs.Fields.{bit, concat}
+use Rattle.bits.specs.Fields.{bit}
 use Rattle.bits.specs.Integers.{SInt}
-
--- nothing is lost
-pub joins : (high low n : ℕ) → low < 2 ^ n → high * 2 ^ n + low < 2 ^ 32 → concat high low n ≡ high * 2 ^ n + low
-joins high low n l h = rw (mod-eq_of_lt l) (mod-eq_of_lt h)
 
 -- a field's integer is no larger than the field allows
 pub sint_mag : (n x : ℕ) → x < 2 ^ n → mag (SInt n x) < 2 ^ n

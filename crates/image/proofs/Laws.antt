@@ -1,11 +1,11 @@
 -- The turns of the loops over an index, and what a page is of an image.
-use Prim.Native.Nat.{ℕ, zero, suc, ◌+◌, ◌-◌, ◌*◌, ◌<◌, ◌≤◌}
+use Prim.Native.Nat.{ℕ, zero, suc, ◌+◌, ◌*◌, ◌<◌, ◌≤◌}
 use native.Mathlib.Omega.{arith}
 use mathlib.Core.Bool.{Bool, true, false, true≢false}
 use mathlib.Core.List.{List, [], ◌∷◌, ◌++◌}
 use mathlib.Core.Path.{◌≡◌, refl, sym, ap, ◌∙◌}
 use lib.Dec.{eqb}
-use lib.ListN.{length, get_or, take, drop, set}
+use lib.ListN.{length, get_or, take, set}
 use lib.Seq.{take-suc, take-suc-set, take_all, paste}
 use borrow.Author.Tests.{eqb-true, eq-eqb}
 use Rattle.laws.proofs.Tests.{both}
@@ -89,9 +89,6 @@ pub other_length : (image : Image) (index : List ℕ) → (length index ≡ page
 other_length image index n e = n (ap length e ∙ counts_length image)
 
 -- ---- a part of an image
-
-pub page_part : (xs : List ℕ) (at : ℕ) → take (at + 256 - at) (drop at xs) ≡ take 256 (drop at xs)
-page_part xs at = let n : at + 256 - at ≡ 256 = omega arith in rw n
 
 pub pasted : (bytes page : List ℕ) (p : ℕ) → length page ≡ 256 → paste bytes (256 * p) page 256 ≡ with_page_at bytes p page
 pasted bytes page p e = rw (take_all 256 page (omega (arith, e)))

@@ -23,11 +23,7 @@ pub page_fits_lem : (bytes : List ℕ) (p : ℕ) → p < pages_in bytes → page
 unfolding page_fits
 page_fits_lem bytes p l = rw (page_length bytes p l)
 
--- the image has the page where nothing that stands before the record is refused
-pub areas_page : (setting : ImageSetting) (p : ℕ) (ram : List ℕ) → decision (image_area_rules setting p ram) ≡ accepted → HasPage setting.image p
-areas_page setting p ram e = (has_page setting.image p _ e).0
-
--- and so where nothing is
+-- the image has the page where nothing is refused
 pub runs_page : (setting : ImageSetting) (p : ℕ) (r : Record) (ram : List ℕ) → image_decision setting p r ram ≡ accepted → HasPage setting.image p
 unfolding image_decision
 runs_page setting p r ram e = (has_page setting.image p _ e).0

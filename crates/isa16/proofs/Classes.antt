@@ -22,11 +22,11 @@ use Rattle.isa16.proofs.Lines.{line_at, in_line, line_begins}
 
 -- ---- the class of a top byte
 
--- bytes of a run_lem
+-- bytes of a run
 pub in_run : (k i n : ℕ) → every (λ t. eqb k (class_of t)) i n ≡ true → (t : ℕ) → i ≤ t → t < i + n → k ≡ class_of t
 in_run k i n e t l u = eqb-true k (class_of t) (run_lem (λ m. eqb k (class_of m)) i n e t l u)
 
--- bytes of a run_lem that are no key of the two matches
+-- bytes of a run that are no key of the two matches
 pub no_line : (singles fives : List (List ℕ)) (i n : ℕ)
     → every (λ t. is_in singles t || (is_in fives (t / 2 ^ 3 % 2 ^ 5) || eqb 24 (class_of t))) i n ≡ true
     → (t : ℕ) → i ≤ t → t < i + n → NoneOf singles t → {five : ℕ} → five ≡ t / 2 ^ 3 % 2 ^ 5 → NoneOf fives five → 24 ≡ class_of t
@@ -109,7 +109,7 @@ means m (row p f ∷ rows) a w = go (means m rows a.1 w) (matches p w)
     go later true = ap (λ (g : ℕ → Instruction). g w) a.0
     go later false = later
 
--- a low byte of a run_lem, under one top byte: listed or not
+-- a low byte of a run, under one top byte: listed or not
 pub by_low : (top k : ℕ) → k ≡ class_of top → (m : ℕ → Instruction) → Means m (line_at lines16 k) → (b : Bool) (i n : ℕ)
     → every (λ l. beq (matches_any (line_at lines16 k) (top * 2 ^ 8 + l)) b) i n ≡ true
     → (w : ℕ) → w / 2 ^ 8 ≡ top → i ≤ w % 2 ^ 8 → w % 2 ^ 8 < i + n → cond b (m w) Unlisted ≡ decode16_of w

@@ -48,7 +48,7 @@ below_lem (O ∷ p) = let h = below_lem p in (set_top (length p) (mask_of p) h.0
 below_lem (I ∷ p) = let h = below_lem p in (set_top (length p) (mask_of p) h.0, set_top (length p) (value_of p) h.1)
 below_lem (x ∷ p) = let h = below_lem p in (clear_top (length p) (mask_of p) h.0, clear_top (length p) (value_of p) h.1)
 
--- the bits above k, and those below_lem
+-- the bits above k, and those below
 pair_test : (k a r s v : ℕ) → r < 2 ^ k → v < 2 ^ k → eqb (a * 2 ^ k + r) (s * 2 ^ k + v) ≡ (eqb a s && eqb r v)
 pair_test k a r s v h l = elim (ℕ_discrete a s) [
   | yes e ↦ elim (ℕ_discrete r v) [

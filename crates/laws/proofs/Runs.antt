@@ -1,4 +1,4 @@
--- A rule over a run_lem of numbers, proved by one test that antt computes; and a number that is no key of a match.
+-- A rule over a run of numbers, proved by one test that antt computes; and a number that is no key of a match.
 use mathlib.Core.Path.{◌≡◌, sym}
 use mathlib.Core.Bool.{Bool, true, false, ◌&&◌, ◌||◌, true≢false}
 use mathlib.Core.List.{List, [], ◌∷◌}

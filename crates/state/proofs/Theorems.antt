@@ -4,7 +4,7 @@ use mathlib.Core.Bool.{Bool, true, false, not, ◌&&◌, cond, and-true}
 use mathlib.Core.List.{[]}
 use mathlib.Core.Path.{◌≡◌, refl, ap, ◌∙◌}
 use Rattle.refusal.specs.Refusals.{Decision, accepted, refused, decision, is_accepted}
-use Rattle.state.specs.FitRecord.{sp_in_bounds, sp_aligned, ram_offset_fits, external_offset_fits, sp_fits, fit_record, sp_rules, fit_rules}
+use Rattle.state.specs.FitRecord.{sp_in_bounds, sp_aligned, ram_offset_fits, external_offset_fits, sp_fits, fit_record, fit_rules}
 use Rattle.state.specs.declared.Record.{Record}
 
 -- two lines, and those behind them
@@ -17,9 +17,6 @@ two_pass false b m n rest = refl
 -- and none behind them
 last_two : (a b : Bool) (m n : ℕ) → is_accepted (cond (not a) (refused m []) (cond (not b) (refused n []) accepted)) ≡ (a && b)
 last_two a b m n = two_pass a b m n accepted ∙ and-true (a && b)
-
-pub sp_fits_by : (sp : ℕ) (d : Decision) → d ≡ decision (sp_rules sp) → is_accepted d ≡ sp_fits sp
-sp_fits_by sp d e = ap is_accepted e ∙ last_two (sp_in_bounds sp) (sp_aligned sp) 41 42
 
 pub accepted_where_fit : (r : Record) (external : ℕ) → is_accepted (decision (fit_rules r external)) ≡ fit_record r external
 unfolding fit_record
