@@ -15,6 +15,9 @@ use Rattle.form.proofs.Ranges.{InRange}
 
 -- a table that begins with the length
 module _ (n : ℕ) (rules : List Rule) where
+  pub other_length : (n ≡ 44 → ⊥) → refused 6 [] ≡ decision (length_rule n ∷ rules)
+  other_length h = rw (ne_eqb n 44 h)
+
   -- with its length, the rest decides
   pub by_rest : n ≡ 44 → decision rules ≡ decision (length_rule n ∷ rules)
   by_rest h = rw (eq-eqb n 44 h)

@@ -22,3 +22,13 @@ equal_tests true true e = refl
 equal_tests true false e = sym e
 equal_tests false true e = e
 equal_tests false false e = refl
+
+-- one of two tests says the other
+pub implied : (a b : Bool) → (b ≡ true → a ≡ true) → b ≡ (a && b)
+implied true b h = refl
+implied false true h = sym (h refl)
+implied false false h = refl
+
+pub implies : (a b : Bool) → (a ≡ true → b ≡ true) → a ≡ (a && b)
+implies true b h = sym (h refl)
+implies false b h = refl
