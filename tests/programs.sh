@@ -1,6 +1,6 @@
 #!/usr/bin/env bash
-# How the four programs read and write, of which no contract can say much: input that comes in pieces, none, and more than a
-# program takes, and words on standard error where a read or a write fails. programs.sh [FOLDER], the folder of the programs.
+# How the programs read and write, of which no contract can say much: input that comes in pieces, none, and more than a program
+# takes, and words on standard error where a read or a write fails. programs.sh [FOLDER], the folder of the four that are built.
 set -euo pipefail
 root=$(dirname "$0")/..
 folder=${1:-$root/target/bin}
@@ -70,3 +70,17 @@ program=lister
 head -c 1024 "$scratch/whole" >"$scratch/part"
 (trap '' XFSZ && ulimit -f 1 && exec "$folder/lister" <"$scratch/page" >"$out" 2>"$err")
 wrote 'a file that is full partway' "$scratch/part" "$unwritten"
+
+# The programs that rt ci runs write many texts and tell each that can't be written, so not one alone.
+for program in vectors short_vectors steps; do
+  crate=$root/crates/$program
+  input=/dev/null
+  if [ -e "$crate/stdin" ]; then
+    input=$crate/stdin
+  fi
+  "$crate/out/$program" <"$input" >/dev/full 2>"$err"
+  if [ "$(sort -u "$err")" != "$program: $unwritten" ] || [ "$(wc -l <"$err")" -lt 2 ]; then
+    echo "programs.sh: $program with a full device as output" >&2
+    exit 1
+  fi
+done
