@@ -69,3 +69,10 @@ pub fn load(bytes: &[u8]) -> Result<Record, Refusal>
     in_range(layout::values_in(bytes))?;
     Ok(layout::record_in(bytes))
 }
+
+// Reading back as the build paper has it, by value: refused, it gives the fresh record.
+pub fn load_or_fresh(bytes: &[u8]) -> Record
+    ensures { result ≡ (load_record bytes.now).loaded }
+{
+    load(bytes).unwrap_or(state::fresh_record())
+}

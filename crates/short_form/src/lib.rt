@@ -101,3 +101,10 @@ pub fn read(bytes: &[u8]) -> Result<Record, Refusal>
     numbers_fit(numbers)?;
     Ok(layout::record_with(values_for(numbers)))
 }
+
+// The same by value: refused, it gives the fresh record.
+pub fn read_or_fresh(bytes: &[u8]) -> Record
+    ensures { result ≡ (read_record bytes.now).loaded }
+{
+    read(bytes).unwrap_or(state::fresh_record())
+}
